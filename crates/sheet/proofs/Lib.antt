@@ -1,0 +1,8 @@
+pub mod Sets
+pub mod Ranks
+pub mod Paths
+pub mod Rules
+pub mod Kept
+pub mod Linking
+pub mod Ancestors
+pub mod Margins

@@ -1,0 +1,34 @@
+use mathlib.Core.Path.{_≡_, refl, sym, ap₂, _∙_}
+use native.Mathlib.Omega.{arith}
+use Rattle.std.proofs.shelf.Results.{made-from-err}
+use Rattle.std.proofs.shelf.Ways.{tells}
+use Rattle.sheet.specs.Calls.{verdict, changed, task}
+use Rattle.sheet.specs.Refusals.{number}
+use Rattle.sheet.proofs.Kept.{kept, accepted, refused, turned-down, number-pos}
+use Rattle.sheet.proofs.sheet.Sheet.task.Needs as need
+
+pub returns-then-t-ge-MOST : need.returns-then-t-ge-MOST
+returns-then-t-ge-MOST c =
+    let v : verdict (c .args .self .now .table) (task (c .args .min) (c .args .max)) ≡ 2 = grind (arith, tells) in
+    record { says = sym v; gives = tt; leaves = refused _ (task (c .args .min) (c .args .max)) (omega arith) }
+
+pub returns-in-Break-min : need.returns-in-Break-min
+returns-in-Break-min c =
+    let s = c .in-Break-min .ensures tt .says in
+    let n = number-pos (c .in-Break-min .field-0 .0) in
+    let v : verdict (c .args .self .now .table) (task (c .args .min) (c .args .max)) ≡ number (c .in-Break-min .field-0 .0) = grind (arith, tells) in
+    let p = turned-down _ (task (c .args .min) (c .args .max)) _ _ (c .from-residual .ensures .1) v in
+    record { says = p .0; gives = made-from-err _ _ (c .from-residual .ensures .0); leaves = p .1 }
+
+pub ghost-self : need.ghost-self
+ghost-self c =
+    let s = c .in-Continue-min .ensures tt .says in
+    let g = c .in-Continue-min .ensures tt .gives in
+    kept (c .args .self .now) (task (c .in-Continue-min .min) (c .in-Continue-min .max)) _ (c .add .ensures) (grind (arith, tells))
+
+pub returns : need.returns
+returns c =
+    let s = c .in-Continue-min .ensures tt .says in
+    let g = c .in-Continue-min .ensures tt .gives in
+    let v : verdict (c .args .self .now .table) (task (c .args .min) (c .args .max)) ≡ 0 = grind (arith, tells) in
+    record { says = sym v; gives = refl; leaves = accepted _ (task (c .args .min) (c .args .max)) _ (c .add .ensures ∙ ap₂ (λ m n. changed (c .args .self .now .table) (task m n)) (g .0) (g .1)) v }

@@ -1,0 +1,39 @@
+use mathlib.Core.Path.{_≡_, sym, ap₂, _∙_}
+use native.Mathlib.Omega.{arith}
+use Rattle.std.proofs.shelf.Ways.{tells}
+use Rattle.sheet.specs.Calls.{verdict, changed, time}
+use Rattle.sheet.specs.Refusals.{number}
+use Rattle.sheet.proofs.Kept.{kept, accepted, turned-down, number-pos}
+use Rattle.sheet.proofs.sheet.Sheet.time.Needs as need
+
+pub returns-in-Break-known : need.returns-in-Break-known
+returns-in-Break-known c =
+    let s = c .in-Break-known .ensures tt .says in
+    let n = number-pos (c .in-Break-known .field-0 .0) in
+    let v : verdict (c .args .self .now .table) (time (c .args .t) (c .args .min) (c .args .max)) ≡ number (c .in-Break-known .field-0 .0) = grind (arith, tells) in
+    let p = turned-down _ (time (c .args .t) (c .args .min) (c .args .max)) _ _ (c .from-residual .ensures .1) v in
+    record { says = p .0; leaves = p .1 }
+
+pub returns-in-Break-min : need.returns-in-Break-min
+returns-in-Break-min c =
+    let k = c .in-Continue-known .ensures tt .says in
+    let s = c .in-Break-min .ensures tt .says in
+    let n = number-pos (c .in-Break-min .field-0 .0) in
+    let v : verdict (c .args .self .now .table) (time (c .args .t) (c .args .min) (c .args .max)) ≡ number (c .in-Break-min .field-0 .0) = grind (arith, tells) in
+    let p = turned-down _ (time (c .args .t) (c .args .min) (c .args .max)) _ _ (c .from-residual-in-Break-min .ensures .1) v in
+    record { says = p .0; leaves = p .1 }
+
+pub ghost-self : need.ghost-self
+ghost-self c =
+    let k = c .in-Continue-known .ensures tt .says in
+    let s = c .in-Continue-min .ensures tt .says in
+    let g = c .in-Continue-min .ensures tt .gives in
+    kept (c .args .self .now) (time (c .args .t) (c .in-Continue-min .min) (c .in-Continue-min .max)) _ (c .retime .ensures) (grind (arith, tells))
+
+pub returns : need.returns
+returns c =
+    let k = c .in-Continue-known .ensures tt .says in
+    let s = c .in-Continue-min .ensures tt .says in
+    let g = c .in-Continue-min .ensures tt .gives in
+    let v : verdict (c .args .self .now .table) (time (c .args .t) (c .args .min) (c .args .max)) ≡ 0 = grind (arith, tells) in
+    record { says = sym v; leaves = accepted _ (time (c .args .t) (c .args .min) (c .args .max)) _ (c .retime .ensures ∙ ap₂ (λ m n. changed (c .args .self .now .table) (time (c .args .t) m n)) (g .0) (g .1)) v }

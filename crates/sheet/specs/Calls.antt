@@ -1,0 +1,67 @@
+-- What each call on a sheet answers, and the table that it leaves. Assumes nothing.
+--     verdict t c    0 where the call is accepted, else the number of its refusal: the smallest that fits
+--     changed t c    the table after the call, where it is accepted
+--     after t c      the table after the call: as it was, where the call is refused
+use mathlib.Core.Bool.{Bool, cond, not, _&&_, _||_}
+use Prim.Native.Nat.{ℕ, _+_}
+use lib.Dec.{eqb, leb}
+use lib.ListN.{set}
+use Rattle.sheet.specs.Sets.{adding, removing}
+use Rattle.sheet.specs.Tables.{task-of, put, is-soft, is-hard}
+use Rattle.sheet.specs.Links.{linked, up}
+use Rattle.sheet.specs.declared.table.Kind.{Kind}
+use Rattle.sheet.specs.declared.table.Kind.the-variants.{Plain, Soft, Hard}
+use Rattle.sheet.specs.declared.table.Task.{Task}
+use Rattle.sheet.specs.declared.table.Table.{Table}
+
+pub data Call : Type 0 where
+  task : (min max : ℕ) → Call
+  time : (k min max : ℕ) → Call
+  link : (a b : ℕ) → Call
+  cut : (a b : ℕ) → Call
+  hard : (k deadline : ℕ) → Call
+  soft : (k : ℕ) → Call
+  plain : (k : ℕ) → Call
+
+-- no task has the number
+abbrev pub unknown : Table → ℕ → Bool
+unknown t k = leb (t .len) k
+
+abbrev pub lasts : ℕ → ℕ → Bool
+lasts min max = leb 1 min && (leb min max && leb max 65535)
+
+abbrev pub in-range : ℕ → Bool
+in-range d = leb 1 d && leb d 1048575
+
+abbrev pub verdict : Table → Call → ℕ
+verdict t (task min max) = cond (leb 16 (t .len)) 2 (cond (not (lasts min max)) 3 0)
+verdict t (time k min max) = cond (unknown t k) 1 (cond (not (lasts min max)) 3 0)
+verdict t (link a b) = cond (unknown t a || unknown t b) 1 (cond (up t b a) 4 0)
+verdict t (cut a b) = cond (unknown t a || unknown t b) 1 (cond (not (linked t a b)) 5 0)
+verdict t (hard k d) = cond (unknown t k) 1 (cond (not (in-range d)) 6 (cond (is-soft (task-of t k .kind)) 7 0))
+verdict t (soft k) = cond (unknown t k) 1 (cond (is-hard (task-of t k .kind)) 7 0)
+verdict t (plain k) = cond (unknown t k) 1 0
+
+abbrev pub with-durations : ℕ → ℕ → Task → Task
+with-durations min max x = record { min = min; max = max; kind = x .kind; before = x .before }
+
+abbrev pub with-kind : Kind → Task → Task
+with-kind kind x = record { min = x .min; max = x .max; kind = kind; before = x .before }
+
+abbrev pub with-before : ℕ → Task → Task
+with-before s x = record { min = x .min; max = x .max; kind = x .kind; before = record { 0 = s } }
+
+abbrev pub new-task : ℕ → ℕ → Task
+new-task min max = record { min = min; max = max; kind = Plain; before = record { 0 = 0 } }
+
+abbrev pub changed : Table → Call → Table
+changed t (task min max) = record { len = t .len + 1; tasks = set (t .tasks) (t .len) (new-task min max) }
+changed t (time k min max) = put t k (with-durations min max (task-of t k))
+changed t (link a b) = put t b (with-before (adding (task-of t b .before .0) a) (task-of t b))
+changed t (cut a b) = put t b (with-before (removing (task-of t b .before .0) a) (task-of t b))
+changed t (hard k d) = put t k (with-kind (Hard d) (task-of t k))
+changed t (soft k) = put t k (with-kind Soft (task-of t k))
+changed t (plain k) = put t k (with-kind Plain (task-of t k))
+
+unfoldable pub after : Table → Call → Table
+after t c = cond (eqb (verdict t c) 0) (changed t c) t
