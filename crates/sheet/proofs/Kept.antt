@@ -49,11 +49,12 @@ number-pos NoLink = omega arith
 number-pos DeadlineRange = omega arith
 number-pos OtherKind = omega arith
 
--- the exit of a `?`: the call answers the refusal e that it was handed, and leaves the table
-pub turned-down : {A : Type 0} (t : Table) (c : Call) (r : Result A Refusal) (e : Refusal) → ErrBy r (λ y. y ≡ e) → verdict t c ≡ number e
-    → (outcome r ≡ verdict t c) × (t ≡ after t c)
-turned-down t c (Ok x) e h v = absurd h
-turned-down t c (Err y) e h v = (ap number h ∙ sym v, refused t c (omega (arith, number-pos e)))
+-- the exit of a `?`: the call answers the refusal e that it was handed, by a test b of its own verdict, and leaves the table
+pub turned-down : {A : Type 0} (t : Table) (c : Call) (b : Bool) (n : ℕ) (r : Result A Refusal) (e : Refusal) → (b ≡ true → verdict t c ≡ n) → ErrBy r (λ y. y ≡ e)
+    → number e ≡ cond b n 0 → (outcome r ≡ verdict t c) × (t ≡ after t c)
+turned-down t c b n (Ok x) e v h s = absurd h
+turned-down t c true n (Err y) e v h s = (ap number h ∙ s ∙ sym (v refl), refused t c (omega (arith, v refl, number-pos e)))
+turned-down t c false n (Err y) e v h s = absurd (omega (arith, number-pos e))
 
 pub linked-is : (t : Table) (a b : ℕ) → has (task-of t b .before .0) a ≡ linked t a b
 unfolding linked

@@ -7,9 +7,9 @@ ghost use Rattle.std.specs.Options.{Cases};
 ghost use Rattle.std.specs.declared.option.Option.the-variants.{None};
 ghost use Rattle.sheet.specs.Ranks.{FirstBest, FirstPresent, or-absent};
 
-// A rank: its comparison is a total order up to equal rank.
+// A rank: its comparison is a total order up to equal rank. Of two ranks at most one is better, and where neither x is better
+// than y nor y than z, x is not better than z.
 pub trait Rank {
-    // The one is better than the other.
     ghost beats: { Self → Self → Bool };
 
     law one_way: { (x y : Self) → beats x y ≡ true → beats y x ≡ false };

@@ -38,7 +38,7 @@ pub struct Table {
 }
 
 impl Kind {
-    // Whether this is a hard task's, by a deadline that is not after this one.
+    // Whether this is hard, with a deadline of at most this one.
     pub fn due_by(self, deadline: u32) -> bool
         ensures { λ r. ⌜ r ≡ due-by deadline self ⌝ }
     {
@@ -58,6 +58,7 @@ impl Task {
         Expected((self.min as u32 + self.max as u32) / 2)
     }
 
+    // How long the task takes at most.
     pub fn maximum(&self) -> Maximum
         ensures { λ r. ⌜ r .0 ≡ maximum-of (now (self .entry)) ⌝ }
     {
@@ -120,7 +121,7 @@ impl Table {
     }
 
     pub fn untie(&mut self, a: u8, b: u8)
-        requires { ⌜ b < 16 ⌝ }
+        requires { ⌜ a < 16 ⌝ ∗ ⌜ b < 16 ⌝ }
         ensures { λ _. ⌜ now (self .exit) ≡ changed (now (self .entry)) (cut a b) ⌝ }
     {
         let before = self.tasks[b as usize].before;

@@ -1,19 +1,16 @@
+use mathlib.Core.Bool.{_||_}
 use mathlib.Core.Path.{_≡_, sym}
 use native.Mathlib.Omega.{arith}
 use Rattle.std.proofs.shelf.Ways.{tells}
-use Rattle.sheet.specs.Calls.{verdict, cut}
-use Rattle.sheet.specs.Refusals.{number}
-use Rattle.sheet.proofs.Kept.{kept, accepted, refused, turned-down, number-pos}
+use Rattle.sheet.specs.Calls.{unknown, verdict, cut}
+use Rattle.sheet.proofs.Kept.{kept, accepted, refused, turned-down}
 use Rattle.sheet.proofs.Linking.{cutting}
 use Rattle.sheet.proofs.Rules.{sound-of}
 use Rattle.sheet.proofs.sheet.Sheet.cut.Needs as need
 
 pub returns-in-Break-linked : need.returns-in-Break-linked
 returns-in-Break-linked c =
-    let s = c .in-Break-linked .ensures tt .says in
-    let n = number-pos (c .in-Break-linked .field-0 .0) in
-    let v : verdict (c .args .self .now .table) (cut (c .args .a) (c .args .b)) ≡ number (c .in-Break-linked .field-0 .0) = grind (arith, tells) in
-    let p = turned-down (c .args .self .now .table) (cut (c .args .a) (c .args .b)) _ _ (c .from-residual .ensures .1) v in
+    let p = turned-down (c .args .self .now .table) (cut (c .args .a) (c .args .b)) (unknown (c .args .self .now .table) (c .args .a) || unknown (c .args .self .now .table) (c .args .b)) 1 _ _ (λ _. grind (arith, tells)) (c .from-residual .ensures .1) (c .in-Break-linked .ensures tt .says) in
     record { says = p .0; leaves = p .1; means = cutting _ (sound-of (c .args .self .now)) _ _ _ (p .1) }
 
 pub returns-then-not-branch : need.returns-then-not-branch

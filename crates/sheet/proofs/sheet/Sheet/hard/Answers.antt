@@ -1,17 +1,13 @@
 use mathlib.Core.Path.{_≡_, sym}
 use native.Mathlib.Omega.{arith}
 use Rattle.std.proofs.shelf.Ways.{tells}
-use Rattle.sheet.specs.Calls.{verdict, hard}
-use Rattle.sheet.specs.Refusals.{number}
-use Rattle.sheet.proofs.Kept.{kept, accepted, refused, turned-down, number-pos}
+use Rattle.sheet.specs.Calls.{unknown, verdict, hard}
+use Rattle.sheet.proofs.Kept.{kept, accepted, refused, turned-down}
 use Rattle.sheet.proofs.sheet.Sheet.hard.Needs as need
 
 pub returns-in-Break-known : need.returns-in-Break-known
 returns-in-Break-known c =
-    let s = c .in-Break-known .ensures tt .says in
-    let n = number-pos (c .in-Break-known .field-0 .0) in
-    let v : verdict (c .args .self .now .table) (hard (c .args .t) (c .args .deadline)) ≡ number (c .in-Break-known .field-0 .0) = grind (arith, tells) in
-    let p = turned-down _ (hard (c .args .t) (c .args .deadline)) _ _ (c .from-residual .ensures .1) v in
+    let p = turned-down (c .args .self .now .table) (hard (c .args .t) (c .args .deadline)) (unknown (c .args .self .now .table) (c .args .t)) 1 _ _ (λ _. grind (arith, tells)) (c .from-residual .ensures .1) (c .in-Break-known .ensures tt .says) in
     record { says = p .0; leaves = p .1 }
 
 pub returns-then-deadline-eq0 : need.returns-then-deadline-eq0

@@ -1,10 +1,10 @@
+use mathlib.Core.Bool.{not}
 use mathlib.Core.Path.{_≡_, refl, sym, ap₂, _∙_}
 use native.Mathlib.Omega.{arith}
 use Rattle.std.proofs.shelf.Results.{made-from-err}
 use Rattle.std.proofs.shelf.Ways.{tells}
-use Rattle.sheet.specs.Calls.{verdict, changed, task}
-use Rattle.sheet.specs.Refusals.{number}
-use Rattle.sheet.proofs.Kept.{kept, accepted, refused, turned-down, number-pos}
+use Rattle.sheet.specs.Calls.{lasts, verdict, changed, task}
+use Rattle.sheet.proofs.Kept.{kept, accepted, refused, turned-down}
 use Rattle.sheet.proofs.sheet.Sheet.task.Needs as need
 
 pub returns-then-t-ge-MOST : need.returns-then-t-ge-MOST
@@ -14,10 +14,7 @@ returns-then-t-ge-MOST c =
 
 pub returns-in-Break-min : need.returns-in-Break-min
 returns-in-Break-min c =
-    let s = c .in-Break-min .ensures tt .says in
-    let n = number-pos (c .in-Break-min .field-0 .0) in
-    let v : verdict (c .args .self .now .table) (task (c .args .min) (c .args .max)) ≡ number (c .in-Break-min .field-0 .0) = grind (arith, tells) in
-    let p = turned-down _ (task (c .args .min) (c .args .max)) _ _ (c .from-residual .ensures .1) v in
+    let p = turned-down (c .args .self .now .table) (task (c .args .min) (c .args .max)) (not (lasts (c .args .min) (c .args .max))) 3 _ _ (λ _. grind (arith, tells)) (c .from-residual .ensures .1) (c .in-Break-min .ensures tt .says) in
     record { says = p .0; gives = made-from-err _ _ (c .from-residual .ensures .0); leaves = p .1 }
 
 pub ghost-self : need.ghost-self

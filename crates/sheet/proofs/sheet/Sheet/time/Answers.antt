@@ -1,26 +1,20 @@
+use mathlib.Core.Bool.{not}
 use mathlib.Core.Path.{_≡_, sym, ap₂, _∙_}
 use native.Mathlib.Omega.{arith}
 use Rattle.std.proofs.shelf.Ways.{tells}
-use Rattle.sheet.specs.Calls.{verdict, changed, time}
-use Rattle.sheet.specs.Refusals.{number}
-use Rattle.sheet.proofs.Kept.{kept, accepted, turned-down, number-pos}
+use Rattle.sheet.specs.Calls.{unknown, lasts, verdict, changed, time}
+use Rattle.sheet.proofs.Kept.{kept, accepted, turned-down}
 use Rattle.sheet.proofs.sheet.Sheet.time.Needs as need
 
 pub returns-in-Break-known : need.returns-in-Break-known
 returns-in-Break-known c =
-    let s = c .in-Break-known .ensures tt .says in
-    let n = number-pos (c .in-Break-known .field-0 .0) in
-    let v : verdict (c .args .self .now .table) (time (c .args .t) (c .args .min) (c .args .max)) ≡ number (c .in-Break-known .field-0 .0) = grind (arith, tells) in
-    let p = turned-down _ (time (c .args .t) (c .args .min) (c .args .max)) _ _ (c .from-residual .ensures .1) v in
+    let p = turned-down (c .args .self .now .table) (time (c .args .t) (c .args .min) (c .args .max)) (unknown (c .args .self .now .table) (c .args .t)) 1 _ _ (λ _. grind (arith, tells)) (c .from-residual .ensures .1) (c .in-Break-known .ensures tt .says) in
     record { says = p .0; leaves = p .1 }
 
 pub returns-in-Break-min : need.returns-in-Break-min
 returns-in-Break-min c =
     let k = c .in-Continue-known .ensures tt .says in
-    let s = c .in-Break-min .ensures tt .says in
-    let n = number-pos (c .in-Break-min .field-0 .0) in
-    let v : verdict (c .args .self .now .table) (time (c .args .t) (c .args .min) (c .args .max)) ≡ number (c .in-Break-min .field-0 .0) = grind (arith, tells) in
-    let p = turned-down _ (time (c .args .t) (c .args .min) (c .args .max)) _ _ (c .from-residual-in-Break-min .ensures .1) v in
+    let p = turned-down (c .args .self .now .table) (time (c .args .t) (c .args .min) (c .args .max)) (not (lasts (c .args .min) (c .args .max))) 3 _ _ (λ _. grind (arith, tells)) (c .from-residual-in-Break-min .ensures .1) (c .in-Break-min .ensures tt .says) in
     record { says = p .0; leaves = p .1 }
 
 pub ghost-self : need.ghost-self
