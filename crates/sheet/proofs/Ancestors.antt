@@ -10,7 +10,8 @@ use Rattle.std.proofs.shelf.Tests.{both-ways, cases-bool, or-cases, or-left, or
 use Rattle.std.proofs.shelf.Ways.{tells, same-from-decides}
 use Rattle.std.specs.Orderings.{Decides}
 use Rattle.sheet.specs.Sets.{has, any, sum-where}
-use Rattle.sheet.specs.Links.{Path, one, more, Known, Acyclic, Closed, linked, reaches, up}
+use Rattle.sheet.specs.Links.{Path, one, more, Closed, linked, reaches, up}
+use Rattle.sheet.specs.Rules.{Known, Acyclic}
 use Rattle.sheet.specs.declared.table.Table.{Table}
 use Rattle.sheet.proofs.Sets.{has-none, any-true, any-from, sum-less}
 use Rattle.sheet.proofs.Paths.{Up, join, onward, last-link, reaches-decides, up-decides}

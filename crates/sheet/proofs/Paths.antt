@@ -7,7 +7,8 @@ use native.Mathlib.Omega.{arith}
 use lib.Dec.{eqb}
 use Rattle.std.specs.Orderings.{Decides}
 use Rattle.std.proofs.shelf.Tests.{or-cases, or-left, or-right, and-parts, and-from, cases-order, eqb-true, eq-eqb}
-use Rattle.sheet.specs.Links.{Path, one, more, Known, linked, via, reaches, up}
+use Rattle.sheet.specs.Links.{Path, one, more, linked, via, reaches, up}
+use Rattle.sheet.specs.Rules.{Known}
 use Rattle.sheet.specs.declared.table.Table.{Table}
 
 -- u is x, or a path leads from it to x

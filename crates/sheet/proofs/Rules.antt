@@ -12,7 +12,8 @@ use Rattle.std.proofs.shelf.Lists.{getD-default, same-lists}
 use Rattle.std.proofs.shelf.Tests.{cases-bool, cases-eq, cases-lt, both-ways, cond-true, cond-false, eq-eqb, ne-eqb}
 use Rattle.sheet.specs.Sets.{has}
 use Rattle.sheet.specs.Tables.{blank, empty, task-of, is-plain}
-use Rattle.sheet.specs.Links.{Path, one, more, linked, Lasting, Due, Known, Acyclic, Clear, Alike}
+use Rattle.sheet.specs.Links.{Path, one, more, linked}
+use Rattle.sheet.specs.Rules.{Lasting, Due, Known, Acyclic, Clear, Alike}
 use Rattle.sheet.specs.declared.table.Kind.{Kind}
 use Rattle.sheet.specs.declared.table.Kind.the-variants.{Plain, Soft, Hard}
 use Rattle.sheet.specs.declared.table.Task.{Task}

@@ -1,6 +1,7 @@
 pub mod Sets
 pub mod Tables
 pub mod Links
+pub mod Rules
 pub mod Refusals
 pub mod Calls
 pub mod Linking

@@ -3,7 +3,7 @@ ghost use mathlib.Core.Path.{_≡_};
 ghost use Prim.Native.Nat.{_≤_};
 ghost use lib.ListN.{length};
 ghost use Rattle.std.specs.Orderings.{Decides};
-ghost use Rattle.sheet.specs.Links.{Lasting, Due, Known, Acyclic, Clear, Alike};
+ghost use Rattle.sheet.specs.Rules.{Lasting, Due, Known, Acyclic, Clear, Alike};
 ghost use Rattle.sheet.specs.Tables.{empty};
 use crate::table::Table;
 use crate::table::TableSame;
