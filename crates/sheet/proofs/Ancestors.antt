@@ -1,17 +1,15 @@
 -- Up-sets gathered one after another, and what makes the descent end. Assumes nothing.
-use mathlib.Core.Path.{_≡_, refl, sym, ap, subst, _∙_}
+use mathlib.Core.Path.{_≡_, sym, subst, _∙_}
 use mathlib.Core.Bool.{Bool, true, false, _&&_, _||_}
 use mathlib.Core.Logic.{_⊎_, inl, inr, ⊎-elim}
-use Prim.Native.Nat.{ℕ, zero, suc, _+_, _<_}
+use Prim.Native.Nat.{ℕ, _+_, _<_}
 use native.Mathlib.Omega.{arith}
 use native.Mathlib.Numerals.{add-one}
 use lib.Dec.{eqb, ltb}
 use Rattle.std.proofs.shelf.Tests.{both-ways, cases-bool, or-cases, or-left, or-right, and-parts, and-from, eqb-true, eq-eqb}
 use Rattle.std.proofs.shelf.Ways.{tells, same-from-decides}
-use Rattle.std.specs.Orderings.{Decides}
 use Rattle.sheet.specs.Sets.{has, any, sum-where}
-use Rattle.sheet.specs.Links.{Path, one, more, Closed, linked, reaches, up}
-use Rattle.sheet.specs.Rules.{Known, Acyclic}
+use Rattle.sheet.specs.Links.{one, more, Closed, linked, reaches, up}
 use Rattle.sheet.specs.declared.table.Table.{Table}
 use Rattle.sheet.proofs.Sets.{has-none, any-true, any-from, sum-less}
 use Rattle.sheet.proofs.Paths.{Up, join, onward, last-link, reaches-decides, up-decides}

@@ -1,20 +1,21 @@
 -- What a call leaves, and that each call that is accepted keeps the rules. Assumes nothing.
 use mathlib.Core.Path.{_≡_, refl, sym, ap, subst, _∙_}
-use mathlib.Core.Bool.{Bool, true, false, cond, not, _||_, _&&_}
-use mathlib.Core.Logic.{_⊎_, _≢_, inl, inr, ⊎-elim}
-use Prim.Native.Nat.{ℕ, zero, suc, _+_, _≤_, _<_}
+use mathlib.Core.Bool.{Bool, true, false, cond, not}
+use mathlib.Core.Logic.{_⊎_, inl, inr, ⊎-elim}
+use Prim.Native.Nat.{ℕ, _+_, _≤_, _<_}
 use native.Mathlib.Omega.{arith}
-use lib.Dec.{eqb, leb}
+use lib.Dec.{eqb}
 use Rattle.std.proofs.shelf.Tests.{both-ways, or-cases, and-parts, eqb-true, eqb-false, ne-eqb, cond-false, cond-both}
 use Rattle.std.proofs.shelf.Ways.{tells, not-from-decides}
 use Rattle.std.specs.Results.{ErrBy}
 use Rattle.std.specs.declared.result.Result.{Result}
 use Rattle.std.specs.declared.result.Result.the-variants.{Ok, Err}
 use Rattle.sheet.specs.Sets.{has, adding, removing}
-use Rattle.sheet.specs.Tables.{task-of}
-use Rattle.sheet.specs.Links.{Path, one, linked, up}
+use Rattle.sheet.specs.Tables.{put, task-of}
+use Rattle.sheet.specs.Links.{linked, up}
+use Rattle.sheet.specs.Rules.{InRange}
 use Rattle.sheet.specs.Refusals.{number, outcome}
-use Rattle.sheet.specs.Calls.{Call, task, time, link, cut, hard, soft, plain, unknown, verdict, changed, after, new-task, with-durations, with-before, with-kind}
+use Rattle.sheet.specs.Calls.{Call, task, time, link, cut, hard, soft, plain, verdict, changed, after, new-task, with-durations, with-before, with-kind}
 use Rattle.sheet.specs.declared.table.Kind.{Kind}
 use Rattle.sheet.specs.declared.table.Kind.the-variants.{Plain, Soft, Hard}
 use Rattle.sheet.specs.declared.table.Task.{Task}
@@ -23,8 +24,8 @@ use Rattle.sheet.specs.declared.refusal.Refusal.{Refusal}
 use Rattle.sheet.specs.declared.refusal.Refusal.the-variants.{UnknownTask, SheetFull, Durations, Circle, NoLink, DeadlineRange, OtherKind}
 use Rattle.sheet.specs.declared.sheet.Sheet.{Sheet}
 use Rattle.sheet.proofs.Sets.{has-none, has-adding, has-removing}
-use Rattle.sheet.proofs.Paths.{Up, up-decides, still-acyclic}
-use Rattle.sheet.proofs.Rules.{Sound, RowOk, Fields, fields, sound-of, link-of, sound-written, sound-unlinked}
+use Rattle.sheet.proofs.Paths.{up-decides, still-acyclic}
+use Rattle.sheet.proofs.Rules.{Sound, RowOk, Fields, plain-not-hard, fields, sound-of, link-of, sound-written, sound-unlinked}
 
 pub accepted : (t : Table) (c : Call) (t′ : Table) → t′ ≡ changed t c → verdict t c ≡ 0 → t′ ≡ after t c
 unfolding after
@@ -62,37 +63,26 @@ linked-is t a b = refl
 
 -- ---- the rules
 
--- a task of a sheet, as a row
-row-ok : (t : Table) → Sound t → (k : ℕ) → k < t .len → RowOk (task-of t k)
-row-ok t r k h = record { lasting = r .lasting k h; due = r .due k }
-
--- a kind that is not hard has no deadline
-pub no-deadline : (k : Kind) → ((d : ℕ) → k ≡ Hard d → ⊥) → (d : ℕ) → k ≡ Hard d → (1 ≤ d) × (d ≤ 1048575)
-no-deadline k off d e = absurd (off d e)
-
-plain-apart : (d : ℕ) → Plain ≡ Hard d → ⊥
-plain-apart d e = let z : _≡_ {A = ℕ} 0 1 = cc in omega arith
-
-soft-apart : (d : ℕ) → Soft ≡ Hard d → ⊥
-soft-apart d e = let z : _≡_ {A = ℕ} 0 1 = cc in omega arith
+soft-not-hard : (d : ℕ) → Soft ≡ Hard d → ⊥
+soft-not-hard d e = let z : _≡_ {A = ℕ} 0 1 = cc in omega arith
 
 hard-same : (d e : ℕ) → Hard d ≡ Hard e → d ≡ e
 hard-same d e h = cc
 
 -- row k is written anew, with the links that it had
 module _ (t : Table) (r : Sound t) (k : ℕ) (lt : k < t .len) where
-  rewritten : (x : Task) → RowOk x → x .before .0 ≡ task-of t k .before .0 → Sound (record { len = t .len; tasks = lib.ListN.set (t .tasks) k x })
+  rewritten : (x : Task) → RowOk x → x .before .0 ≡ task-of t k .before .0 → Sound (put t k x)
   rewritten x ok e =
       sound-unlinked t r (t .len) k x (omega arith) (r .few) lt (λ j h ne. h) ok (λ u h. sym (linked-is t u k) ∙ subst (λ (s : ℕ). has s u ≡ true) e h)
 
-  marked : (kind : Kind) → ((d : ℕ) → kind ≡ Hard d → (1 ≤ d) × (d ≤ 1048575)) → Sound (record { len = t .len; tasks = lib.ListN.set (t .tasks) k (with-kind kind (task-of t k)) })
+  marked : (kind : Kind) → InRange (with-kind kind (task-of t k)) → Sound (put t k (with-kind kind (task-of t k)))
   marked kind due = rewritten (with-kind kind (task-of t k)) (record { lasting = r .lasting k lt; due = due }) refl
 
 pub keeps : (t : Table) (c : Call) → Sound t → verdict t c ≡ 0 → Sound (changed t c)
 keeps t (task min max) r v =
     let few : t .len < 16 = grind (arith, tells) in
     sound-unlinked t r (t .len + 1) (t .len) (new-task min max) (omega arith) (omega arith) (omega arith) (λ k h ne. omega arith)
-    (record { lasting = (grind (arith, tells), grind (arith, tells), grind (arith, tells)); due = no-deadline Plain plain-apart })
+    (record { lasting = (grind (arith, tells), grind (arith, tells), grind (arith, tells)); due = λ d e. absurd (plain-not-hard d e) })
     (λ u e. absurd (both-ways _ (has-none u) e))
 keeps t (time k min max) r v =
     let lt : k < t .len = grind (arith, tells) in
@@ -122,8 +112,8 @@ keeps t (hard k d) r v =
     let low : 1 ≤ d = grind (arith, tells) in
     let high : d ≤ 1048575 = grind (arith, tells) in
     marked t r k lt (Hard d) (λ e h. let q = hard-same d e h in (omega arith, omega arith))
-keeps t (soft k) r v = marked t r k (grind (arith, tells)) Soft (no-deadline Soft soft-apart)
-keeps t (plain k) r v = marked t r k (grind (arith, tells)) Plain (no-deadline Plain plain-apart)
+keeps t (soft k) r v = marked t r k (grind (arith, tells)) Soft (λ d e. absurd (soft-not-hard d e))
+keeps t (plain k) r v = marked t r k (grind (arith, tells)) Plain (λ d e. absurd (plain-not-hard d e))
 
 pub after-sound : (t : Table) (c : Call) → Sound t → Sound (after t c)
 after-sound t c r = after-cases Sound t c (keeps t c r) (λ _. r)

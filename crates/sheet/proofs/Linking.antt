@@ -1,12 +1,12 @@
 -- What `link` and `cut` do to links, paths and up-sets. Assumes nothing.
 use mathlib.Core.Path.{_≡_, refl, sym, ap, subst, _∙_}
-use mathlib.Core.Bool.{Bool, true, false, cond, not, _&&_, _||_}
+use mathlib.Core.Bool.{true, false, cond, not, _&&_, _||_}
 use mathlib.Core.Logic.{_⊎_, inl, inr, ⊎-elim}
 use Prim.Native.Nat.{ℕ, _<_}
 use native.Mathlib.Omega.{arith}
 use lib.Dec.{eqb}
 use lib.Seq.{set-getD}
-use Rattle.std.proofs.shelf.Tests.{both-ways, cases-bool, cases-eq, cond-true, eq-eqb, ne-eqb, eqb-true, and-parts}
+use Rattle.std.proofs.shelf.Tests.{cases-bool, cond-true, eqb-true, and-parts}
 use Rattle.std.proofs.shelf.Ways.{tells, same-from-decides, decides-like}
 use Rattle.std.specs.Orderings.{Decides}
 use Rattle.sheet.specs.Sets.{has, adding, removing}

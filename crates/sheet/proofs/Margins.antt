@@ -1,10 +1,9 @@
 -- Loads, demands and margins. Assumes nothing.
-use mathlib.Core.Path.{_≡_, refl, sym, ap, subst, _∙_}
-use mathlib.Core.Bool.{Bool, true, false, cond}
+use mathlib.Core.Path.{_≡_, refl, sym, ap, _∙_}
+use mathlib.Core.Bool.{Bool, true, false}
 use mathlib.Core.List.{List}
 use mathlib.Core.Logic.{_≢_, ⊎-elim}
-use Prim.Native.Nat.{ℕ, zero, suc, _+_, _-_, _*_, _^_, _≤_, _<_, min}
-use native.Mathlib.Nat.{mul-suc}
+use Prim.Native.Nat.{ℕ, _+_, _-_, _*_, _^_, _≤_, _<_, min}
 use native.Mathlib.Numerals.{add-one}
 use native.Mathlib.Omega.{arith}
 use lib.IntN.{ℤ, pos, _-ℤ_}
@@ -24,7 +23,7 @@ use Rattle.sheet.specs.declared.table.Kind.the-variants.{Hard}
 use Rattle.sheet.specs.declared.table.Table.{Table}
 use Rattle.sheet.specs.declared.ticks.Margin.{Margin}
 use Rattle.sheet.proofs.Sets.{sum-same}
-use Rattle.sheet.proofs.Rules.{Sound, plain-is}
+use Rattle.sheet.proofs.Rules.{Sound, getD-replicated, plain-is}
 
 -- a loop that adds up what passes: the sum so far, which stays small
 pub record Summed (p : ℕ → Bool) (f : ℕ → ℕ) (n sum : ℕ) : Type 0 where
@@ -64,13 +63,8 @@ pub record Listed (t : Table) (ms : List (Option Margin)) (n : ℕ) : Type 0 whe
   pub done : (k : ℕ) → k < n → getD ms k None ≡ margin-of t k
   pub left : (k : ℕ) → n ≤ k → getD ms k None ≡ None
 
-all-absent : (n k : ℕ) → getD (replicate {A = Option Margin} n None) k None ≡ None
-all-absent zero k = refl
-all-absent (suc n) zero = refl
-all-absent (suc n) (suc k) = all-absent n k
-
 pub listed-none : (t : Table) → Listed t (replicate 16 None) 0
-listed-none t = record { whole = refl; done = λ k h. absurd (omega arith); left = λ k _. all-absent 16 k }
+listed-none t = record { whole = refl; done = λ k h. absurd (omega arith); left = λ k _. getD-replicated None 16 k }
 
 pub listed-more : (t : Table) (ms : List (Option Margin)) (n : ℕ) (m : Option Margin) → n < 16 → m ≡ margin-of t n → Listed t ms n → Listed t (set ms n m) (n + 1)
 listed-more t ms n m lt e l =

@@ -1,7 +1,7 @@
 -- The rules of a sheet as one record over its table; what one row more or another keeps; equal sheets are equal values. Assumes nothing.
 use mathlib.Core.List.{List}
 use mathlib.Core.Path.{_≡_, refl, sym, ap, ap₂, subst, _∙_}
-use mathlib.Core.Bool.{Bool, true, false, cond}
+use mathlib.Core.Bool.{true, false, cond}
 use mathlib.Core.Logic.{_⊎_, _≢_, inl, inr, ⊎-elim}
 use Prim.Native.Nat.{ℕ, zero, suc, _≤_, _<_}
 use native.Mathlib.Omega.{arith}
@@ -13,12 +13,11 @@ use Rattle.std.proofs.shelf.Tests.{cases-bool, cases-eq, cases-lt, both-ways, c
 use Rattle.sheet.specs.Sets.{has}
 use Rattle.sheet.specs.Tables.{blank, empty, task-of, is-plain}
 use Rattle.sheet.specs.Links.{Path, one, more, linked}
-use Rattle.sheet.specs.Rules.{Lasting, Due, Known, Acyclic, Clear, Alike}
+use Rattle.sheet.specs.Rules.{Lasts, InRange, Blank, Lasting, Due, Known, Acyclic, Clear, Alike}
 use Rattle.sheet.specs.declared.table.Kind.{Kind}
 use Rattle.sheet.specs.declared.table.Kind.the-variants.{Plain, Soft, Hard}
 use Rattle.sheet.specs.declared.table.Task.{Task}
 use Rattle.sheet.specs.declared.table.Table.{Table}
-use Rattle.sheet.specs.declared.task_set.TaskSet.{TaskSet}
 use Rattle.sheet.specs.declared.sheet.Sheet.{Sheet}
 use Rattle.sheet.proofs.Sets.{has-none, same-set}
 use Rattle.sheet.proofs.Paths.{carried}
@@ -46,20 +45,21 @@ sound-of s =
 
 -- ---- the empty table
 
-all-blank : (n k : ℕ) → getD (replicate n blank) k blank ≡ blank
-all-blank zero k = refl
-all-blank (suc n) zero = refl
-all-blank (suc n) (suc k) = all-blank n k
+-- a list of nothing but a has a everywhere, past its end too
+pub getD-replicated : {A : Type 0} (a : A) (n k : ℕ) → getD (replicate n a) k a ≡ a
+getD-replicated a zero k = refl
+getD-replicated a (suc n) zero = refl
+getD-replicated a (suc n) (suc k) = getD-replicated a n k
 
 none : (k : ℕ) → task-of empty k ≡ blank
-none k = all-blank 16 k
+none k = getD-replicated blank 16 k
 
 unlinked : (a b : ℕ) → linked empty a b ≡ true → ⊥
 unfolding linked
 unlinked a b l = both-ways _ (has-none a) (subst (λ (x : Task). has (x .before .0) a ≡ true) (none b) l)
 
-plain-not-hard : {A : Type 0} (d : ℕ) → Plain ≡ Hard d → A
-plain-not-hard d e = let z : _≡_ {A = ℕ} 0 1 = cc in absurd (omega arith)
+pub plain-not-hard : (d : ℕ) → Plain ≡ Hard d → ⊥
+plain-not-hard d e = let z : _≡_ {A = ℕ} 0 1 = cc in omega arith
 
 pub empty-sound : Sound empty
 empty-sound =
@@ -67,10 +67,10 @@ empty-sound =
       whole = refl;
       few = omega arith;
       lasting = λ k h. absurd (omega arith);
-      due = λ k d e. plain-not-hard d (sym (ap (λ (x : Task). x .kind) (none k)) ∙ e);
+      due = λ k d e. absurd (plain-not-hard d (sym (ap (λ (x : Task). x .kind) (none k)) ∙ e));
       known = λ a b l. absurd (unlinked a b l);
       acyclic = acyclic;
-      clear = λ k h. subst (λ (x : Task). (x .min ≡ 0) × (x .max ≡ 0) × (is-plain (x .kind) ≡ true) × (x .before .0 ≡ 0)) (sym (none k)) (refl, refl, refl, refl);
+      clear = λ k h. subst Blank (sym (none k)) (refl, refl, refl, refl);
     }
   where
     acyclic : (k : ℕ) → Path empty k k → ⊥
@@ -79,10 +79,10 @@ empty-sound =
 
 -- ---- one row is written, which may be the first free one
 
--- what a row must be like in a table of len tasks
+-- what a row that holds a task must be like
 pub record RowOk (x : Task) : Type 0 where
-  pub lasting : (1 ≤ x .min) × (x .min ≤ x .max) × (x .max ≤ 65535)
-  pub due : (d : ℕ) → x .kind ≡ Hard d → (1 ≤ d) × (d ≤ 1048575)
+  pub lasting : Lasts x
+  pub due : InRange x
 
 module _ (t : Table) (r : Sound t) (len b : ℕ) (x : Task) where
   abbrev pub written : Table
@@ -125,11 +125,11 @@ module _ (t : Table) (r : Sound t) (len b : ℕ) (x : Task) where
       record {
         whole = length-set (t .tasks) b x ∙ r .whole;
         few = few;
-        lasting = by-row (λ y k. k < len → (1 ≤ y .min) × (y .min ≤ y .max) × (y .max ≤ 65535)) (omega arith) (λ _. ok .lasting) (λ k ne h. r .lasting k (old k h ne));
-        due = by-row (λ y k. (d : ℕ) → y .kind ≡ Hard d → (1 ≤ d) × (d ≤ 1048575)) (omega arith) (ok .due) (λ k ne. r .due k);
+        lasting = by-row (λ y k. k < len → Lasts y) (omega arith) (λ _. ok .lasting) (λ k ne h. r .lasting k (old k h ne));
+        due = by-row (λ y k. InRange y) (omega arith) (ok .due) (λ k ne. r .due k);
         known = λ u v l. ⊎-elim (λ h. (from u (h .1), omega (arith, h .0))) (λ o. (omega (arith, r .known u v o .0), omega (arith, r .known u v o .1))) (link-of (omega arith) u v l);
         acyclic = acyclic;
-        clear = by-row (λ y k. len ≤ k → (y .min ≡ 0) × (y .max ≡ 0) × (is-plain (y .kind) ≡ true) × (y .before .0 ≡ 0)) (omega arith) (λ h. absurd (omega arith)) (λ k ne h. r .clear k (omega arith));
+        clear = by-row (λ y k. len ≤ k → Blank y) (omega arith) (λ h. absurd (omega arith)) (λ k ne h. r .clear k (omega arith));
       }
 
   -- no link is new

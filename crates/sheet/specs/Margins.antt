@@ -18,7 +18,6 @@ use Rattle.sheet.specs.Tables.{task-of, maximum-of}
 use Rattle.sheet.specs.Links.{up}
 use Rattle.sheet.specs.declared.table.Kind.{Kind}
 use Rattle.sheet.specs.declared.table.Kind.the-variants.{Plain, Soft, Hard}
-use Rattle.sheet.specs.declared.table.Task.{Task}
 use Rattle.sheet.specs.declared.table.Table.{Table}
 use Rattle.sheet.specs.declared.ticks.Margin.{Margin}
 

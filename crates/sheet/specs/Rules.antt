@@ -5,15 +5,26 @@ use Prim.Native.Nat.{ℕ, _≤_, _<_}
 use Rattle.sheet.specs.Links.{Path, linked}
 use Rattle.sheet.specs.Tables.{task-of, is-plain}
 use Rattle.sheet.specs.declared.table.Kind.the-variants.{Hard}
+use Rattle.sheet.specs.declared.table.Task.{Task}
 use Rattle.sheet.specs.declared.table.Table.{Table}
 
--- the durations of each task: 1 ≤ min ≤ max ≤ 65,535
-abbrev pub Lasting : Table → Type 0
-Lasting t = (k : ℕ) → k < t .len → (1 ≤ task-of t k .min) × (task-of t k .min ≤ task-of t k .max) × (task-of t k .max ≤ 65535)
+-- the durations of a task: 1 ≤ min ≤ max ≤ 65,535
+abbrev pub Lasts : Task → Type 0
+Lasts x = (1 ≤ x .min) × (x .min ≤ x .max) × (x .max ≤ 65535)
 
--- the deadline of each hard task: 1 ≤ d ≤ 1,048,575
+-- the deadline of a task, where it is hard: 1 ≤ d ≤ 1,048,575
+abbrev pub InRange : Task → Type 0
+InRange x = (d : ℕ) → x .kind ≡ Hard d → (1 ≤ d) × (d ≤ 1048575)
+
+-- a row that holds no task
+abbrev pub Blank : Task → Type 0
+Blank x = (x .min ≡ 0) × (x .max ≡ 0) × (is-plain (x .kind) ≡ true) × (x .before .0 ≡ 0)
+
+abbrev pub Lasting : Table → Type 0
+Lasting t = (k : ℕ) → k < t .len → Lasts (task-of t k)
+
 abbrev pub Due : Table → Type 0
-Due t = (k d : ℕ) → task-of t k .kind ≡ Hard d → (1 ≤ d) × (d ≤ 1048575)
+Due t = (k : ℕ) → InRange (task-of t k)
 
 -- a link leads from a task to a task
 abbrev pub Known : Table → Type 0
@@ -23,9 +34,9 @@ Known t = (a b : ℕ) → linked t a b ≡ true → (a < t .len) × (b < t .len)
 abbrev pub Acyclic : Table → Type 0
 Acyclic t = (k : ℕ) → Path t k k → ⊥
 
--- rows at and above the count are blank
+-- rows at and above the count hold no task
 abbrev pub Clear : Table → Type 0
-Clear t = (k : ℕ) → t .len ≤ k → (task-of t k .min ≡ 0) × (task-of t k .max ≡ 0) × (is-plain (task-of t k .kind) ≡ true) × (task-of t k .before .0 ≡ 0)
+Clear t = (k : ℕ) → t .len ≤ k → Blank (task-of t k)
 
 -- two tables hold the same count of tasks, with the same durations, kinds and links
 pub record Alike (s t : Table) : Type 0 where

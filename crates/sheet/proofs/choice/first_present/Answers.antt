@@ -1,6 +1,5 @@
-use mathlib.Core.Path.{_≡_, sym, _∙_}
+use mathlib.Core.Path.{sym, _∙_}
 use native.Mathlib.Omega.{arith}
-use lib.ListN.{getD}
 use Rattle.std.proofs.shelf.Lists.{getD-default, getD-past}
 use Rattle.std.specs.declared.option.Option.the-variants.{None}
 use Rattle.sheet.proofs.Ranks.{first-present, none-present}

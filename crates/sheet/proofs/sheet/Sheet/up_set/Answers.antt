@@ -1,13 +1,11 @@
 use mathlib.Core.Bool.{Bool, _||_}
-use mathlib.Core.Path.{_≡_, sym, ap, _∙_}
+use mathlib.Core.Path.{_≡_, ap, _∙_}
 use Prim.Native.Nat.{ℕ}
-use native.Mathlib.Omega.{arith}
-use Rattle.std.proofs.shelf.Ways.{tells, decides-at}
+use Rattle.std.proofs.shelf.Ways.{decides-at}
 use Rattle.sheet.specs.Links.{up}
 use Rattle.sheet.specs.Sets.{has}
 use Rattle.sheet.proofs.Ancestors.{closed-none}
 use Rattle.sheet.proofs.Paths.{up-decides}
-use Rattle.sheet.proofs.Rules.{sound-of}
 use Rattle.sheet.proofs.Sets.{has-none}
 use Rattle.sheet.proofs.sheet.Sheet.up_set.Needs as need
 
