@@ -13,11 +13,11 @@ use Rattle.std.specs.declared.option.Option.the-variants.{Some, None}
 use Rattle.sheet.specs.Calls.{Call, task, time, link, cut, hard, soft, plain, unknown, verdict, after}
 use Rattle.sheet.specs.Links.{linked, up}
 use Rattle.sheet.specs.Margins.{margin-of}
-use Rattle.sheet.specs.Ranks.{or-absent}
-use Rattle.sheet.specs.Sets.{any}
+use Rattle.common.specs.Ranks.{or-absent}
+use Rattle.common.specs.Sets.{any}
 use Rattle.sheet.specs.Tables.{empty, task-of, expected-of}
 use Rattle.sheet.specs.declared.table.Table.{Table}
-use Rattle.sheet.specs.declared.ticks.Margin.{Margin}
+use Rattle.common.specs.declared.ticks.Margin.{Margin}
 use Rattle.known.specs.declared.step.Step.{Step}
 use Rattle.known.specs.declared.step.Step.the-variants.{New, Task, Time, Link, Cut, Hard, Soft, Plain, Linked, Expected, Above, Margin as MarginIs, NoMargin, Fits, Tightest, NoTightest}
 

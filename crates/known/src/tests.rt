@@ -1,7 +1,7 @@
 // The worked sheets, run through the code.
 use crate::step::Step;
 use crate::worked;
-use sheet::Refusal;
+use common::Refusal;
 use sheet::Sheet;
 use sheet::SheetSame;
 use std::test::*;

@@ -4,22 +4,22 @@ ghost use mathlib.Core.Path.{_≡_};
 ghost use Rattle.std.specs.Vec.{made};
 ghost use Rattle.report.specs.Steps.{call-of, number-of};
 ghost use Rattle.sheet.specs.Calls.{after, verdict};
-ghost use Rattle.sheet.specs.Refusals.{outcome};
-use sheet::Refusal;
+ghost use Rattle.common.specs.Refusals.{outcome};
+use common::MOST;
+use common::Margin;
+use common::Refusal;
+use common::TaskSet;
+use sheet::Kind;
 use sheet::Sheet;
 use sheet::Task;
-use std::alloc::Global;
-use std::error::AnyError;
 use std::io;
 use week::BUS_GROUP;
 use week::NAMES;
 use week::RF_GROUP;
 use week::Step;
 use week::StepDisplay;
-use words::kind_words;
-use words::margin_words;
+use words::kind_word;
 use words::reason;
-use words::set_words;
 
 mod week;
 mod words;
@@ -66,7 +66,24 @@ fn name(t: u8) -> &'static str {
     }
 }
 
-fn print_task(rt: &(impl Print + Alloc<A = Global>), sheet: &Sheet, t: u8) -> Result<(), AnyError> {
+// A number in a column, or a dash where it is absent.
+fn print_number(rt: &impl Print, number: Option<i64>) -> io::Result<()> {
+    match number {
+        Some(number) => print!(rt, "{number:>9}"),
+        None => print!(rt, "        -"),
+    }
+}
+
+fn print_set(rt: &impl Print, set: TaskSet) -> io::Result<()> {
+    for t in 0..MOST {
+        if set.contains(t) {
+            print!(rt, " {t}")?;
+        }
+    }
+    println!(rt, "")
+}
+
+fn print_task(rt: &impl Print, sheet: &Sheet, t: u8) -> io::Result<()> {
     let (Ok(task), Ok(margin)) = (sheet.get(t), sheet.margin(t)) else {
         return Ok(());
     };
@@ -78,20 +95,34 @@ fn print_task(rt: &(impl Print + Alloc<A = Global>), sheet: &Sheet, t: u8) -> Re
         kind,
         before,
     } = task;
-    let kind = kind_words(rt.alloc(), kind)?;
-    let margin = margin_words(rt.alloc(), margin)?;
-    let before = set_words(rt.alloc(), before)?;
-    println!(
+    let word = kind_word(kind);
+    print!(
         rt,
-        "{t:>4}  {name:<15} {min:>5} {max:>5} {expected:>8}  {kind:<15} {margin:>7}  {before}"
+        "{t:>4}  {name:<15} {min:>5} {max:>5} {expected:>8}  {word:<5}"
     )?;
-    Ok(())
+    print_number(rt, deadline(kind))?;
+    print_number(rt, left(margin))?;
+    print_set(rt, before)
 }
 
-fn print_sheet(rt: &(impl Print + Alloc<A = Global>), sheet: &Sheet) -> Result<(), AnyError> {
+fn deadline(kind: Kind) -> Option<i64> {
+    let Kind::Hard(deadline) = kind else {
+        return None;
+    };
+    Some(deadline as i64)
+}
+
+fn left(margin: Option<Margin>) -> Option<i64> {
+    let Some(Margin(left)) = margin else {
+        return None;
+    };
+    Some(left)
+}
+
+fn print_sheet(rt: &impl Print, sheet: &Sheet) -> io::Result<()> {
     println!(
         rt,
-        "Task  name              min   max expected  kind             margin  waits for"
+        "Task  name              min   max expected  kind  deadline   margin after"
     )?;
     for t in 0..sheet.count() {
         print_task(rt, sheet, t)?;
@@ -99,21 +130,19 @@ fn print_sheet(rt: &(impl Print + Alloc<A = Global>), sheet: &Sheet) -> Result<(
     let fits = if sheet.fits() { "yes" } else { "no" };
     println!(rt, "Fits: {fits}")?;
     let Some(t) = sheet.tightest() else {
-        println!(rt, "Tightest: none, for no task is hard")?;
-        return Ok(());
+        return println!(rt, "Tightest: none, for no task is hard");
     };
     let name = name(t);
-    println!(rt, "Tightest: {t}, {name}")?;
-    Ok(())
+    println!(rt, "Tightest: {t}, {name}")
 }
 
-fn run(rt: &(impl Print + Alloc<A = Global>)) -> Result<(), AnyError> {
+fn run(rt: &impl Print) -> io::Result<()> {
     let mut sheet = Sheet::new();
     print_calls(rt, &mut sheet, "RF group", &RF_GROUP)?;
     print_calls(rt, &mut sheet, "Bus group", &BUS_GROUP)?;
     print_sheet(rt, &sheet)
 }
 
-fn main(rt: LibcRuntime) -> Result<(), AnyError> {
-    rt.report(run(&rt))
+fn main(rt: LibcRuntime) -> io::Result<()> {
+    run(&rt)
 }

@@ -8,10 +8,10 @@ use native.Mathlib.Numerals.{add-one}
 use lib.Dec.{eqb, ltb}
 use Rattle.std.proofs.shelf.Tests.{both-ways, cases-bool, or-cases, or-left, or-right, and-parts, and-from, eqb-true, eq-eqb}
 use Rattle.std.proofs.shelf.Ways.{tells, same-from-decides}
-use Rattle.sheet.specs.Sets.{has, any, sum-where}
+use Rattle.common.specs.Sets.{has, any, sum-where}
 use Rattle.sheet.specs.Links.{one, more, Closed, linked, reaches, up}
 use Rattle.sheet.specs.declared.table.Table.{Table}
-use Rattle.sheet.proofs.Sets.{has-none, any-true, any-from, sum-less}
+use Rattle.common.proofs.Sets.{has-none, any-true, any-from, sum-less}
 use Rattle.sheet.proofs.Paths.{Up, join, onward, last-link, reaches-decides, up-decides}
 use Rattle.sheet.proofs.Rules.{Sound}
 

@@ -10,20 +10,20 @@ use Rattle.std.proofs.shelf.Ways.{tells, not-from-decides}
 use Rattle.std.specs.Results.{ErrBy}
 use Rattle.std.specs.declared.result.Result.{Result}
 use Rattle.std.specs.declared.result.Result.the-variants.{Ok, Err}
-use Rattle.sheet.specs.Sets.{has, adding, removing}
+use Rattle.common.specs.Sets.{has, adding, removing}
 use Rattle.sheet.specs.Tables.{put, task-of}
 use Rattle.sheet.specs.Links.{linked, up}
 use Rattle.sheet.specs.Rules.{InRange}
-use Rattle.sheet.specs.Refusals.{number, outcome}
+use Rattle.common.specs.Refusals.{number, outcome}
 use Rattle.sheet.specs.Calls.{Call, task, time, link, cut, hard, soft, plain, verdict, changed, after, new-task, with-durations, with-before, with-kind}
 use Rattle.sheet.specs.declared.table.Kind.{Kind}
 use Rattle.sheet.specs.declared.table.Kind.the-variants.{Plain, Soft, Hard}
 use Rattle.sheet.specs.declared.table.Task.{Task}
 use Rattle.sheet.specs.declared.table.Table.{Table}
-use Rattle.sheet.specs.declared.refusal.Refusal.{Refusal}
-use Rattle.sheet.specs.declared.refusal.Refusal.the-variants.{UnknownTask, SheetFull, Durations, Circle, NoLink, DeadlineRange, OtherKind}
+use Rattle.common.specs.declared.refusal.Refusal.{Refusal}
 use Rattle.sheet.specs.declared.sheet.Sheet.{Sheet}
-use Rattle.sheet.proofs.Sets.{has-none, has-adding, has-removing}
+use Rattle.common.proofs.Refusals.{number-pos}
+use Rattle.common.proofs.Sets.{has-none, has-adding, has-removing}
 use Rattle.sheet.proofs.Paths.{up-decides, still-acyclic}
 use Rattle.sheet.proofs.Rules.{Sound, RowOk, Fields, plain-not-hard, fields, sound-of, link-of, sound-written, sound-unlinked}
 
@@ -40,15 +40,6 @@ pub after-cases : (P : Table → Type 0) (t : Table) (c : Call) → (verdict t c
 unfolding after
 after-cases P t c left kept =
     cond-both (eqb (verdict t c) 0) (changed t c) t P (λ e. left (eqb-true _ _ e)) (λ e. kept (let ne = eqb-false (verdict t c) 0 e in omega arith))
-
-pub number-pos : (e : Refusal) → 0 < number e
-number-pos UnknownTask = omega arith
-number-pos SheetFull = omega arith
-number-pos Durations = omega arith
-number-pos Circle = omega arith
-number-pos NoLink = omega arith
-number-pos DeadlineRange = omega arith
-number-pos OtherKind = omega arith
 
 -- the exit of a `?`: the call answers the refusal e that it was handed, by a test b of its own verdict, and leaves the table
 pub turned-down : {A : Type 0} (t : Table) (c : Call) (b : Bool) (n : ℕ) (r : Result A Refusal) (e : Refusal) → (b ≡ true → verdict t c ≡ n) → ErrBy r (λ y. y ≡ e)

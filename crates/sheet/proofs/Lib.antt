@@ -1,5 +1,3 @@
-pub mod Sets
-pub mod Ranks
 pub mod Paths
 pub mod Rules
 pub mod Kept

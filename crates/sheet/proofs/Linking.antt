@@ -9,13 +9,13 @@ use lib.Seq.{set-getD}
 use Rattle.std.proofs.shelf.Tests.{cases-bool, cond-true, eqb-true, and-parts}
 use Rattle.std.proofs.shelf.Ways.{tells, same-from-decides, decides-like}
 use Rattle.std.specs.Orderings.{Decides}
-use Rattle.sheet.specs.Sets.{has, adding, removing}
+use Rattle.common.specs.Sets.{has, adding, removing}
 use Rattle.sheet.specs.Tables.{blank, put, task-of}
 use Rattle.sheet.specs.Links.{Path, one, linked, up}
 use Rattle.sheet.specs.Calls.{link, cut, verdict, changed, after, with-before}
 use Rattle.sheet.specs.Linking.{Linking, Cutting}
 use Rattle.sheet.specs.declared.table.Table.{Table}
-use Rattle.sheet.proofs.Sets.{has-adding, has-removing}
+use Rattle.common.proofs.Sets.{has-adding, has-removing}
 use Rattle.sheet.proofs.Paths.{Up, carried, reaches-decides, up-decides}
 use Rattle.sheet.proofs.Rules.{Sound, linked-written}
 use Rattle.sheet.proofs.Kept.{accepted, after-cases, after-sound, linked-is}

@@ -15,14 +15,14 @@ use Rattle.std.proofs.shelf.Tests.{cases-eq, cases-lt}
 use Rattle.std.proofs.shelf.Ways.{tells}
 use Rattle.std.specs.declared.option.Option.{Option}
 use Rattle.std.specs.declared.option.Option.the-variants.{Some, None}
-use Rattle.sheet.specs.Sets.{has, sum-where}
+use Rattle.common.specs.Sets.{has, sum-where}
 use Rattle.sheet.specs.Tables.{maximum-of, task-of}
 use Rattle.sheet.specs.Margins.{needed, demand, margin-for, margin-of, Tightest}
-use Rattle.sheet.specs.Ranks.{FirstPresent}
+use Rattle.common.specs.Ranks.{FirstPresent}
 use Rattle.sheet.specs.declared.table.Kind.the-variants.{Hard}
 use Rattle.sheet.specs.declared.table.Table.{Table}
-use Rattle.sheet.specs.declared.ticks.Margin.{Margin}
-use Rattle.sheet.proofs.Sets.{sum-same}
+use Rattle.common.specs.declared.ticks.Margin.{Margin}
+use Rattle.common.proofs.Sets.{sum-same}
 use Rattle.sheet.proofs.Rules.{Sound, getD-replicated, plain-is}
 
 -- a loop that adds up what passes: the sum so far, which stays small

@@ -10,7 +10,7 @@ use lib.ListN.{length, getD, set, replicate, length-set}
 use lib.Seq.{getD-set-same, getD-set-other}
 use Rattle.std.proofs.shelf.Lists.{getD-default, same-lists}
 use Rattle.std.proofs.shelf.Tests.{cases-bool, cases-eq, cases-lt, both-ways, cond-true, cond-false, eq-eqb, ne-eqb}
-use Rattle.sheet.specs.Sets.{has}
+use Rattle.common.specs.Sets.{has}
 use Rattle.sheet.specs.Tables.{blank, empty, task-of, is-plain}
 use Rattle.sheet.specs.Links.{Path, one, more, linked}
 use Rattle.sheet.specs.Rules.{Lasts, InRange, Blank, Lasting, Due, Known, Acyclic, Clear, Alike}
@@ -19,7 +19,7 @@ use Rattle.sheet.specs.declared.table.Kind.the-variants.{Plain, Soft, Hard}
 use Rattle.sheet.specs.declared.table.Task.{Task}
 use Rattle.sheet.specs.declared.table.Table.{Table}
 use Rattle.sheet.specs.declared.sheet.Sheet.{Sheet}
-use Rattle.sheet.proofs.Sets.{has-none, same-set}
+use Rattle.common.proofs.Sets.{has-none, same-set}
 use Rattle.sheet.proofs.Paths.{carried}
 
 -- what the ghost fields of a sheet say of its table

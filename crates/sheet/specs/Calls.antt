@@ -6,7 +6,7 @@ use mathlib.Core.Bool.{Bool, cond, not, _&&_, _||_}
 use Prim.Native.Nat.{ℕ, _+_}
 use lib.Dec.{eqb, leb}
 use lib.ListN.{set}
-use Rattle.sheet.specs.Sets.{adding, removing}
+use Rattle.common.specs.Sets.{adding, removing}
 use Rattle.sheet.specs.Tables.{task-of, put, is-soft, is-hard}
 use Rattle.sheet.specs.Links.{linked, up}
 use Rattle.sheet.specs.declared.table.Kind.{Kind}

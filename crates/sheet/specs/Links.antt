@@ -8,7 +8,7 @@ use mathlib.Core.Path.{_≡_}
 use mathlib.Core.Bool.{Bool, true, _&&_, _||_}
 use Prim.Native.Nat.{ℕ, zero, suc}
 use lib.Dec.{eqb}
-use Rattle.sheet.specs.Sets.{has}
+use Rattle.common.specs.Sets.{has}
 use Rattle.sheet.specs.Tables.{task-of}
 use Rattle.sheet.specs.declared.table.Table.{Table}
 

@@ -13,13 +13,13 @@ use lib.IntN.{pos, _-ℤ_}
 use lib.Signed.{_≤ℤ_, _<ℤ_}
 use Rattle.std.specs.declared.option.Option.{Option}
 use Rattle.std.specs.declared.option.Option.the-variants.{Some, None}
-use Rattle.sheet.specs.Sets.{any, sum-where}
+use Rattle.common.specs.Sets.{any, sum-where}
 use Rattle.sheet.specs.Tables.{task-of, maximum-of}
 use Rattle.sheet.specs.Links.{up}
 use Rattle.sheet.specs.declared.table.Kind.{Kind}
 use Rattle.sheet.specs.declared.table.Kind.the-variants.{Plain, Soft, Hard}
 use Rattle.sheet.specs.declared.table.Table.{Table}
-use Rattle.sheet.specs.declared.ticks.Margin.{Margin}
+use Rattle.common.specs.declared.ticks.Margin.{Margin}
 
 abbrev pub due-by : ℕ → Kind → Bool
 due-by d Plain = false

@@ -5,10 +5,10 @@ ghost use Rattle.std.specs.Orderings.{Decides};
 ghost use Rattle.sheet.specs.Calls.{changed, cut, link, task, time, with-kind};
 ghost use Rattle.sheet.specs.Margins.{due-by};
 ghost use Rattle.sheet.specs.Tables.{empty, expected-of, maximum-of, put, task-of};
-use crate::task_set::TaskSet;
-use crate::task_set::TaskSetSame;
-use crate::ticks::Expected;
-use crate::ticks::Maximum;
+use common::Expected;
+use common::Maximum;
+use common::TaskSet;
+use common::TaskSetSame;
 
 // How a task's end counts.
 #[derive(Clone, Copy)]

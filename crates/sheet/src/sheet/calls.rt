@@ -4,11 +4,11 @@ ghost use mathlib.Core.Bool.{cond, not};
 ghost use Rattle.std.specs.Vec.{made};
 ghost use Rattle.sheet.specs.Calls.{after, verdict, lasts, task, time, link, cut, hard, soft, plain};
 ghost use Rattle.sheet.specs.Linking.{Linking, Cutting};
-ghost use Rattle.sheet.specs.Refusals.{outcome};
-use crate::refusal::Refusal;
+ghost use Rattle.common.specs.Refusals.{outcome};
 use crate::sheet::Sheet;
 use crate::table::Kind;
-use crate::task_set::MOST;
+use common::MOST;
+use common::Refusal;
 
 const LONGEST: u32 = 65535;
 

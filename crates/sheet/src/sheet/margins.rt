@@ -9,17 +9,17 @@ ghost use Rattle.std.specs.Vec.{made};
 ghost use Rattle.std.specs.declared.option.Option.the-variants.{None};
 ghost use Rattle.sheet.specs.Calls.{unknown};
 ghost use Rattle.sheet.specs.Margins.{needed, margin-for, margin-of, Fits, Tightest};
-ghost use Rattle.sheet.specs.Refusals.{outcome};
-ghost use Rattle.sheet.specs.Sets.{has, sum-where};
+ghost use Rattle.common.specs.Refusals.{outcome};
+ghost use Rattle.common.specs.Sets.{has, sum-where};
 ghost use Rattle.sheet.specs.Tables.{task-of, maximum-of};
-use crate::choice::first_present;
-use crate::refusal::Refusal;
 use crate::sheet::Sheet;
 use crate::table::Kind;
-use crate::task_set::TaskSet;
-use crate::ticks::Margin;
-use crate::ticks::MarginRank;
-use crate::ticks::Maximum;
+use common::Margin;
+use common::MarginRank;
+use common::Maximum;
+use common::Refusal;
+use common::TaskSet;
+use common::first_present;
 
 impl Sheet {
     // How long the tasks of the set take together at most.

@@ -5,11 +5,11 @@ ghost use Prim.Native.Nat.{_<_};
 ghost use Rattle.std.specs.Vec.{made};
 ghost use Rattle.sheet.specs.Calls.{unknown};
 ghost use Rattle.sheet.specs.Links.{linked};
-ghost use Rattle.sheet.specs.Refusals.{outcome};
+ghost use Rattle.common.specs.Refusals.{outcome};
 ghost use Rattle.sheet.specs.Tables.{task-of};
-use crate::refusal::Refusal;
 use crate::sheet::Sheet;
 use crate::table::Task;
+use common::Refusal;
 
 impl Sheet {
     // How many tasks there are.

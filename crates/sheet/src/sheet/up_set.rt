@@ -7,11 +7,11 @@ ghost use Rattle.std.specs.Orderings.{Decides};
 ghost use Rattle.std.specs.Vec.{made};
 ghost use Rattle.sheet.specs.Calls.{unknown};
 ghost use Rattle.sheet.specs.Links.{Path, Closed, up};
-ghost use Rattle.sheet.specs.Refusals.{outcome};
-ghost use Rattle.sheet.specs.Sets.{has};
-use crate::refusal::Refusal;
+ghost use Rattle.common.specs.Refusals.{outcome};
+ghost use Rattle.common.specs.Sets.{has};
 use crate::sheet::Sheet;
-use crate::task_set::TaskSet;
+use common::Refusal;
+use common::TaskSet;
 
 impl Sheet {
     // `found` with the up-set of t. Only a task that has not been found is entered, and it is found from then on: so

@@ -3,7 +3,7 @@ use mathlib.Core.Bool.{Bool, true}
 use Prim.Native.Nat.{ℕ, _+_, _<_}
 use native.Mathlib.Omega.{arith}
 use Rattle.sheet.specs.Links.{linked}
-use Rattle.sheet.specs.declared.task_set.TaskSet.{TaskSet}
+use Rattle.common.specs.declared.task_set.TaskSet.{TaskSet}
 use Rattle.sheet.proofs.Ancestors.{Gathered, ancestors, fewer, gathered-none, gathered-takes, gathered-passes, gathered-there, gathered-up}
 use Rattle.sheet.proofs.Kept.{linked-is}
 use Rattle.sheet.proofs.Rules.{sound-of}

@@ -2,7 +2,7 @@ use mathlib.Core.Path.{refl, sym, _∙_}
 use native.Mathlib.Omega.{arith}
 use Rattle.std.proofs.shelf.Signed.{ints}
 use Rattle.std.proofs.shelf.Tests.{false≢true}
-use Rattle.sheet.proofs.Ranks.{present-within}
+use Rattle.common.proofs.Ranks.{present-within}
 use Rattle.sheet.proofs.sheet.Sheet.fits.Needs as need
 
 pub returns-then-left-lt0 : need.returns-then-left-lt0

@@ -1,9 +1,9 @@
 use mathlib.Core.Path.{_≡_, refl, sym, ap, subst, _∙_}
 use Prim.Native.Nat.{ℕ, _+_, _-_, _^_, min}
 use native.Mathlib.Omega.{arith}
-use Rattle.sheet.specs.Sets.{has, sum-where}
+use Rattle.common.specs.Sets.{has, sum-where}
 use Rattle.sheet.specs.Tables.{maximum-of, task-of}
-use Rattle.sheet.specs.declared.ticks.Maximum.{Maximum}
+use Rattle.common.specs.declared.ticks.Maximum.{Maximum}
 use Rattle.sheet.proofs.Margins.{Summed, summed-takes, summed-passes, maximum-small}
 use Rattle.sheet.proofs.Rules.{sound-of}
 use Rattle.sheet.proofs.sheet.Sheet.load.Needs as need

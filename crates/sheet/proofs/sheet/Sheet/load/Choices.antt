@@ -1,4 +1,4 @@
-use Rattle.sheet.specs.Sets.{has}
+use Rattle.common.specs.Sets.{has}
 use Rattle.sheet.specs.Tables.{maximum-of, task-of}
 use Rattle.sheet.proofs.Margins.{Summed}
 use Rattle.sheet.proofs.sheet.Sheet.load.Given as given

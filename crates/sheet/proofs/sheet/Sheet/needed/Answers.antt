@@ -4,7 +4,7 @@ use Prim.Native.Nat.{ℕ, _+_}
 use native.Mathlib.Omega.{arith}
 use Rattle.sheet.specs.Margins.{due-by, needed}
 use Rattle.sheet.specs.Tables.{task-of}
-use Rattle.sheet.specs.declared.task_set.TaskSet.{TaskSet}
+use Rattle.common.specs.declared.task_set.TaskSet.{TaskSet}
 use Rattle.sheet.proofs.Ancestors.{Gathered, closed-none, gathered-none, gathered-takes, gathered-passes, gathered-there, gathered-alone}
 use Rattle.sheet.proofs.Rules.{sound-of}
 use Rattle.sheet.proofs.sheet.Sheet.needed.Needs as need

@@ -3,10 +3,10 @@ use mathlib.Core.Path.{_≡_, ap, _∙_}
 use Prim.Native.Nat.{ℕ}
 use Rattle.std.proofs.shelf.Ways.{decides-at}
 use Rattle.sheet.specs.Links.{up}
-use Rattle.sheet.specs.Sets.{has}
+use Rattle.common.specs.Sets.{has}
 use Rattle.sheet.proofs.Ancestors.{closed-none}
 use Rattle.sheet.proofs.Paths.{up-decides}
-use Rattle.sheet.proofs.Sets.{has-none}
+use Rattle.common.proofs.Sets.{has-none}
 use Rattle.sheet.proofs.sheet.Sheet.up_set.Needs as need
 
 pub gather-requires : need.gather-requires

@@ -1,7 +1,7 @@
 -- The number of each refusal, and of what a call answers. Assumes nothing.
 use Prim.Native.Nat.{ℕ}
-use Rattle.sheet.specs.declared.refusal.Refusal.{Refusal}
-use Rattle.sheet.specs.declared.refusal.Refusal.the-variants.{UnknownTask, SheetFull, Durations, Circle, NoLink, DeadlineRange, OtherKind}
+use Rattle.common.specs.declared.refusal.Refusal.{Refusal}
+use Rattle.common.specs.declared.refusal.Refusal.the-variants.{UnknownTask, SheetFull, Durations, Circle, NoLink, DeadlineRange, OtherKind}
 use Rattle.std.specs.declared.result.Result.{Result}
 use Rattle.std.specs.declared.result.Result.the-variants.{Ok, Err}
 

@@ -5,9 +5,9 @@ use lib.Bits.{bitOr}
 use lib.Dec.{eqb, ltb}
 use Rattle.std.proofs.shelf.Bits.{one-shl}
 use Rattle.std.proofs.shelf.Tests.{lt-ltb}
-use Rattle.sheet.specs.Sets.{has, adding}
-use Rattle.sheet.proofs.Sets.{has-adding, or-adding}
-use Rattle.sheet.proofs.task_set.TaskSet.with.Needs as need
+use Rattle.common.specs.Sets.{has, adding}
+use Rattle.common.proofs.Sets.{has-adding, or-adding}
+use Rattle.common.proofs.task_set.TaskSet.with.Needs as need
 
 pub returns : need.returns
 returns c =

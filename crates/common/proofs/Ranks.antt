@@ -10,7 +10,7 @@ use Rattle.std.proofs.shelf.Lists.{getD-past}
 use Rattle.std.proofs.shelf.Tests.{cases-lt, true≢false}
 use Rattle.std.specs.declared.option.Option.{Option}
 use Rattle.std.specs.declared.option.Option.the-variants.{Some, None}
-use Rattle.sheet.specs.Ranks.{FirstBest, FirstPresent, or-absent}
+use Rattle.common.specs.Ranks.{FirstBest, FirstPresent, or-absent}
 
 -- what is there stands within the list
 pub present-within : {R : Type 0} (xs : List (Option R)) (k : ℕ) (x : R) → getD xs k None ≡ Some x → k < length xs

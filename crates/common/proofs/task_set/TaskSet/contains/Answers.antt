@@ -4,9 +4,9 @@ use native.Mathlib.Omega.{arith}
 use lib.Bits.{and-mask}
 use lib.Dec.{eqb}
 use Rattle.std.proofs.shelf.Tests.{le-ltb}
-use Rattle.sheet.specs.Sets.{has}
-use Rattle.sheet.proofs.Sets.{has-past}
-use Rattle.sheet.proofs.task_set.TaskSet.contains.Needs as need
+use Rattle.common.specs.Sets.{has}
+use Rattle.common.proofs.Sets.{has-past}
+use Rattle.common.proofs.task_set.TaskSet.contains.Needs as need
 
 pub returns-then-t-lt-MOST : need.returns-then-t-lt-MOST
 unfolding has

@@ -5,7 +5,7 @@ ghost use Prim.Native.Nat.{ℕ};
 ghost use lib.ListN.{getD, length};
 ghost use Rattle.std.specs.Options.{Cases};
 ghost use Rattle.std.specs.declared.option.Option.the-variants.{None};
-ghost use Rattle.sheet.specs.Ranks.{FirstBest, FirstPresent, or-absent};
+ghost use Rattle.common.specs.Ranks.{FirstBest, FirstPresent, or-absent};
 
 // A rank: its comparison is a total order up to equal rank. Of two ranks at most one is better, and where neither x is better
 // than y nor y than z, x is not better than z.

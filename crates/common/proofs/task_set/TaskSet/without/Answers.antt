@@ -4,9 +4,9 @@ use native.Mathlib.Omega.{arith}
 use lib.Bits.{bitAnd}
 use Rattle.std.proofs.shelf.Bits.{one-shl}
 use Rattle.std.proofs.shelf.Tests.{cond-false}
-use Rattle.sheet.specs.Sets.{has, removing}
-use Rattle.sheet.proofs.Sets.{and-removing, has-past, has-removing}
-use Rattle.sheet.proofs.task_set.TaskSet.without.Needs as need
+use Rattle.common.specs.Sets.{has, removing}
+use Rattle.common.proofs.Sets.{and-removing, has-past, has-removing}
+use Rattle.common.proofs.task_set.TaskSet.without.Needs as need
 
 pub returns-then-t-ge-MOST : need.returns-then-t-ge-MOST
 returns-then-t-ge-MOST c =

@@ -1,8 +1,8 @@
 use mathlib.Core.Path.{ap, _∙_}
 use native.Mathlib.Omega.{arith}
-use Rattle.sheet.specs.Sets.{has}
-use Rattle.sheet.proofs.Sets.{has-none, lowest-trailing}
-use Rattle.sheet.proofs.task_set.TaskSet.lowest.Needs as need
+use Rattle.common.specs.Sets.{has}
+use Rattle.common.proofs.Sets.{has-none, lowest-trailing}
+use Rattle.common.proofs.task_set.TaskSet.lowest.Needs as need
 
 pub returns-then-self-eq0 : need.returns-then-self-eq0
 returns-then-self-eq0 c u = ap (λ s. has s u) (c .if-self-eq0 .taken) ∙ has-none u

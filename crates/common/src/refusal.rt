@@ -1,7 +1,7 @@
 // Why a call is refused. A refused call leaves everything as it was.
 ghost use mathlib.Core.Path.{_≡_};
 ghost use Rattle.std.specs.Orderings.{Decides};
-ghost use Rattle.sheet.specs.Refusals.{number};
+ghost use Rattle.common.specs.Refusals.{number};
 
 // Where several fit a call, the smallest number is answered.
 #[derive(Clone, Copy)]

@@ -2,8 +2,8 @@ use mathlib.Core.Path.{sym, _∙_}
 use native.Mathlib.Omega.{arith}
 use Rattle.std.proofs.shelf.Lists.{getD-default, getD-past}
 use Rattle.std.specs.declared.option.Option.the-variants.{None}
-use Rattle.sheet.proofs.Ranks.{first-present, none-present}
-use Rattle.sheet.proofs.choice.first_present.Needs as need
+use Rattle.common.proofs.Ranks.{first-present, none-present}
+use Rattle.common.proofs.choice.first_present.Needs as need
 
 pub returns-in-rest : need.returns-in-rest
 returns-in-rest g c = λ k. getD-past _ k None (omega (arith, c .in-rest .ensures tt))

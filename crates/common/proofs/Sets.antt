@@ -11,7 +11,7 @@ use lib.Dec.{eqb, eqb·suc-suc, eqb·suc-zero, eqb·zero-suc}
 use lib.Pow.{pow-lt, pow-mono, shr-shr}
 use Rattle.std.proofs.shelf.Tests.{both-ways, cases-lt, eq-eqb, false≢true, or-cases, or-left, or-right}
 use Rattle.std.proofs.shelf.Ways.{tells}
-use Rattle.sheet.specs.Sets.{has, adding, removing, Lowest, any, sum-where}
+use Rattle.common.specs.Sets.{has, adding, removing, Lowest, any, sum-where}
 
 -- ---- a set by its lowest digit and its half
 

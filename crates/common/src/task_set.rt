@@ -6,7 +6,7 @@ ghost use lib.Count.{ones};
 ghost use lib.Dec.{eqb, ltb};
 ghost use Rattle.std.specs.Options.{Cases};
 ghost use Rattle.std.specs.Orderings.{Decides};
-ghost use Rattle.sheet.specs.Sets.{has, adding, removing, Lowest};
+ghost use Rattle.common.specs.Sets.{has, adding, removing, Lowest};
 
 // A task number is below this.
 pub const MOST: u8 = 16;

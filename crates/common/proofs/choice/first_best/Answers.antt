@@ -3,8 +3,8 @@ use Prim.Native.Nat.{_+_}
 use Rattle.std.specs.Slices.{Ranks}
 use Rattle.std.specs.shelf.Bests.{FirstBest}
 use Rattle.std.proofs.shelf.Bests.{first-best-keeps, first-best-takes}
-use Rattle.sheet.proofs.choice.first_best.Needs as need
-use Rattle.sheet.proofs.choice.first_best.Needs.{then-better, else-better}
+use Rattle.common.proofs.choice.first_best.Needs as need
+use Rattle.common.proofs.choice.first_best.Needs.{then-better, else-better}
 
 pub loop-i-again : need.loop-i-again
 loop-i-again g c =
