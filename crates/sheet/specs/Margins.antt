@@ -1,5 +1,5 @@
 -- Margins: what is left of a deadline once all that must have ended by it has taken its maximum. Assumes nothing.
---     due-by d x       the task is hard and its deadline is at most d
+--     due-by d kind    the kind is hard, with a deadline of at most d
 --     needed t d u     u must have ended by d: it is in the up-set of a hard task whose deadline is at most d
 --     demand t d       the sum of the maxima of the tasks that must have ended by d
 --     margin-of t k    the deadline of task k less the demand at it; absent for a task that isn't hard
