@@ -3,16 +3,18 @@
 --     next t s         the table after it, also where a call is refused
 --     all-right t ss   each of the steps ss has it, one after another from the table t
 use mathlib.Core.Bool.{Bool, true, false, cond, not, _&&_}
+use mathlib.Core.Path.{_≡_}
 use mathlib.Core.List.{List, [], _∷_}
 use Prim.Native.Nat.{ℕ}
 use lib.Dec.{eqb}
 use lib.IntN.{ℤ, pos}
 use lib.Signed.{leZ, ltZ}
+use Rattle.std.specs.Orderings.{Decides}
 use Rattle.std.specs.declared.option.Option.{Option}
 use Rattle.std.specs.declared.option.Option.the-variants.{Some, None}
-use Rattle.sheet.specs.Calls.{Call, task, time, link, cut, hard, soft, plain, unknown, verdict, after}
+use Rattle.sheet.specs.Calls.{task, time, link, cut, hard, soft, plain, verdict, after}
 use Rattle.sheet.specs.Links.{linked, up}
-use Rattle.sheet.specs.Margins.{margin-of}
+use Rattle.sheet.specs.Margins.{margin-of, Fits as SheetFits, Tightest as SheetTightest}
 use Rattle.common.specs.Ranks.{or-absent}
 use Rattle.common.specs.Sets.{any}
 use Rattle.sheet.specs.Tables.{empty, task-of, expected-of}
@@ -41,6 +43,19 @@ abbrev pub is-tightest : Table → ℕ → Bool
 is-tightest t k =
     not (is-absent (margin-of t k)) && (not (any (t .len) (λ u. smaller (margin-of t u) (margin-of t k))) && not (any k (λ u. not (smaller (margin-of t k) (margin-of t u)))))
 
+-- no margin is below 0
+abbrev pub all-met : Table → Bool
+all-met t = not (any (t .len) (λ k. smaller (margin-of t k) (Some (record { 0 = pos 0 }))))
+
+abbrev pub none-hard : Table → Bool
+none-hard t = not (any (t .len) (λ k. not (is-absent (margin-of t k))))
+
+-- these tests, which compute, find exactly what the sheet's definitions say
+pub record Tests (t : Table) : Type 0 where
+  pub fits : Decides (all-met t) (SheetFits t)
+  pub tightest : (k : ℕ) → Decides (is-tightest t k) (SheetTightest t k)
+  pub none : Decides (none-hard t) ((k : ℕ) → margin-of t k ≡ None)
+
 abbrev pub right : Table → Step → Bool
 right t New = true
 right t (Task min max says) = eqb (verdict t (task min max)) says
@@ -55,9 +70,9 @@ right t (Expected k ticks) = eqb (expected-of (task-of t k)) ticks
 right t (Above k u yes′) = same (up t u k) yes′
 right t (MarginIs k left) = is-left (margin-of t k) left
 right t (NoMargin k) = is-absent (margin-of t k)
-right t (Fits yes′) = same (not (any (t .len) (λ k. smaller (margin-of t k) (Some (record { 0 = pos 0 }))))) yes′
+right t (Fits yes′) = same (all-met t) yes′
 right t (Tightest k) = is-tightest t k
-right t NoTightest = not (any (t .len) (λ k. not (is-absent (margin-of t k))))
+right t NoTightest = none-hard t
 
 abbrev pub next : Table → Step → Table
 next t New = empty

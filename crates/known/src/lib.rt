@@ -1,13 +1,21 @@
 // The worked sheets as one list: the contract computes the definitions over it, and the tests run it through the code.
 ghost use mathlib.Core.Bool.{true};
 ghost use mathlib.Core.Path.{_≡_};
-ghost use Rattle.known.specs.Worked.{all-right};
+ghost use Rattle.known.specs.Worked.{all-right, Tests};
 ghost use Rattle.sheet.specs.Tables.{empty};
+use sheet::Sheet;
 use step::Step;
 
 pub mod step;
 #[cfg(test)]
 mod tests;
+
+// What the list asks of fits and tightest is what these words mean, of every sheet.
+pub fn tests_stand(sheet: &Sheet) -> u8
+    ensures { λ _. ⌜ Tests (now (sheet .entry) .table) ⌝ }
+{
+    0
+}
 
 // Each step has its answer by the definitions, one after another.
 pub fn worked() -> [Step; 90]

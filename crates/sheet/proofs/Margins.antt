@@ -78,7 +78,7 @@ listed-more t ms n m lt e l =
     }
 
 -- a row that holds no task has no margin
-no-margin : (t : Table) → Sound t → (k : ℕ) → t .len ≤ k → margin-of t k ≡ None
+pub no-margin : (t : Table) → Sound t → (k : ℕ) → t .len ≤ k → margin-of t k ≡ None
 no-margin t r k ge = ap (margin-for t) (plain-is _ (r .clear k ge .2))
 
 pub listed-all : (t : Table) → Sound t → (ms : List (Option Margin)) (n : ℕ) → t .len ≤ n → n ≤ t .len → Listed t ms n → (k : ℕ) → getD ms k None ≡ margin-of t k

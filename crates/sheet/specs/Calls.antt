@@ -1,8 +1,10 @@
 -- What each call on a sheet answers, and the table that it leaves. Assumes nothing.
---     verdict t c    0 where the call is accepted, else the number of its refusal: the smallest that fits
+--     rows t c       the refusals that the call may get, each with its test
+--     verdict t c    0 where the call is accepted, else the number of its refusal
 --     changed t c    the table after the call, where it is accepted
 --     after t c      the table after the call: as it was, where the call is refused
 use mathlib.Core.Bool.{Bool, cond, not, _&&_, _||_}
+use mathlib.Core.List.{List, [], _∷_}
 use Prim.Native.Nat.{ℕ, _+_}
 use lib.Dec.{eqb, leb}
 use lib.ListN.{set}
@@ -33,14 +35,23 @@ lasts min max = leb 1 min && (leb min max && leb max 65535)
 abbrev pub in-range : ℕ → Bool
 in-range d = leb 1 d && leb d 1048575
 
+-- the refusals that a call may get, by number, each with the test whether it fits
+abbrev pub rows : Table → Call → List (Bool × ℕ)
+rows t (task min max) = (leb 16 (t .len), 2) ∷ (not (lasts min max), 3) ∷ []
+rows t (time k min max) = (unknown t k, 1) ∷ (not (lasts min max), 3) ∷ []
+rows t (link a b) = (unknown t a || unknown t b, 1) ∷ (up t b a, 4) ∷ []
+rows t (cut a b) = (unknown t a || unknown t b, 1) ∷ (not (linked t a b), 5) ∷ []
+rows t (hard k d) = (unknown t k, 1) ∷ (not (in-range d), 6) ∷ (is-soft (task-of t k .kind), 7) ∷ []
+rows t (soft k) = (unknown t k, 1) ∷ (is-hard (task-of t k .kind), 7) ∷ []
+rows t (plain k) = (unknown t k, 1) ∷ []
+
+-- the number of the first row that fits, 0 where none does
+abbrev pub first-fit : List (Bool × ℕ) → ℕ
+first-fit [] = 0
+first-fit ((fits, n) ∷ rs) = cond fits n (first-fit rs)
+
 abbrev pub verdict : Table → Call → ℕ
-verdict t (task min max) = cond (leb 16 (t .len)) 2 (cond (not (lasts min max)) 3 0)
-verdict t (time k min max) = cond (unknown t k) 1 (cond (not (lasts min max)) 3 0)
-verdict t (link a b) = cond (unknown t a || unknown t b) 1 (cond (up t b a) 4 0)
-verdict t (cut a b) = cond (unknown t a || unknown t b) 1 (cond (not (linked t a b)) 5 0)
-verdict t (hard k d) = cond (unknown t k) 1 (cond (not (in-range d)) 6 (cond (is-soft (task-of t k .kind)) 7 0))
-verdict t (soft k) = cond (unknown t k) 1 (cond (is-hard (task-of t k .kind)) 7 0)
-verdict t (plain k) = cond (unknown t k) 1 0
+verdict t c = first-fit (rows t c)
 
 abbrev pub with-durations : ℕ → ℕ → Task → Task
 with-durations min max x = record { min = min; max = max; kind = x .kind; before = x .before }
