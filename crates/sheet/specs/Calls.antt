@@ -3,9 +3,11 @@
 --     verdict t c    0 where the call is accepted, else the number of its refusal
 --     changed t c    the table after the call, where it is accepted
 --     after t c      the table after the call: as it was, where the call is refused
-use mathlib.Core.Bool.{Bool, cond, not, _&&_, _||_}
+use mathlib.Core.Bool.{Bool, true, cond, not, _&&_, _||_}
+use mathlib.Core.Path.{_≡_}
 use mathlib.Core.List.{List, [], _∷_}
-use Prim.Native.Nat.{ℕ, _+_}
+use mathlib.Core.Logic.{_⊎_}
+use Prim.Native.Nat.{ℕ, _+_, _≤_, _<_}
 use lib.Dec.{eqb, leb}
 use lib.ListN.{set}
 use Rattle.common.specs.Sets.{adding, removing}
@@ -49,6 +51,21 @@ rows t (plain k) = (unknown t k, 1) ∷ []
 abbrev pub first-fit : List (Bool × ℕ) → ℕ
 first-fit [] = 0
 first-fit ((fits, n) ∷ rs) = cond fits n (first-fit rs)
+
+-- no row that fits has a number below n, and n is 0 only where none fits
+abbrev pub Below : List (Bool × ℕ) → ℕ → Type 0
+Below [] n = Unit {0}
+Below ((fits, m) ∷ rs) n = (fits ≡ true → (0 < n) × (n ≤ m)) × Below rs n
+
+-- some row that fits has the number n
+abbrev pub Among : List (Bool × ℕ) → ℕ → Type 0
+Among [] n = ⊥
+Among ((fits, m) ∷ rs) n = ((fits ≡ true) × (m ≡ n)) ⊎ Among rs n
+
+-- n is the smallest number of a row that fits, and 0 where none does
+pub record Smallest (rs : List (Bool × ℕ)) (n : ℕ) : Type 0 where
+  pub least : Below rs n
+  pub fits : 0 < n → Among rs n
 
 abbrev pub verdict : Table → Call → ℕ
 verdict t c = first-fit (rows t c)
