@@ -1,4 +1,4 @@
-use Rattle.known.proofs.Tests.{tests-stand}
+use Rattle.known.proofs.Deciding.{tests-stand}
 use Rattle.known.proofs.tests_stand.Needs as need
 use Rattle.sheet.proofs.Rules.{sound-of}
 
