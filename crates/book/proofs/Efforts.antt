@@ -1,16 +1,17 @@
 -- How keen tasks are, and the choice of the keenest. Assumes nothing.
-use Rattle.std.proofs.Common.{◌≡◌, ℕ, ◌*◌, ◌<◌, ◌≤◌, Bool, true, false, ltb, List, get_or, Some, None, Option, refl, ap, ◌∙◌, subst, ap₂, subst₂, inl, ⊎_elim, arith, MatchOption}
-use Rattle.std.proofs.lemmas.Bool.{both_ways, cases_lt, ltb-false, ltb-true}
+use Rattle.std.proofs.Common.{◌≡◌, refl, ap, ap₂, subst, subst₂, ◌∙◌, Bool, true, false, List, inl, ⊎_elim, ℕ, ◌*◌, ◌≤◌, ◌<◌, arith, ltb, get_or, ltb-false, ltb-true, Option, Some, None}
+use Rattle.std.proofs.lemmas.Bool.{both_ways, cases_lt}
+use Rattle.std.specs.Prelude.{MatchOption}
+use Rattle.book.specs.Keenest.{Keenest, Keenness, effort, soft}
+use Rattle.book.specs.Worths.{Meaning}
 use Rattle.common.specs.Ranks.{FirstPresent}
 use Rattle.common.specs.declared.fraction.Fraction.{Fraction}
-use Rattle.sheet.proofs.Loads.{expected-pos, load-pos, load_same}
+use Rattle.sheet.proofs.Loads.{expected-pos, load-pos, load-same}
 use Rattle.sheet.proofs.Paths.{up-decides}
 use Rattle.sheet.proofs.Rules.{Sound, plain-is}
 use Rattle.sheet.specs.Links.{up}
 use Rattle.sheet.specs.Tables.{expected_of, is_soft, load_of}
 use Rattle.sheet.specs.declared.table.Table.{Table}
-use Rattle.book.specs.Keenest.{Keenest, Keenness, effort, soft}
-use Rattle.book.specs.Worths.{Meaning}
 
 module _ (t : Table) (r : Sound t) where
   -- a row that holds no task is not soft
@@ -27,8 +28,8 @@ module _ (t : Table) (r : Sound t) where
   -- the fraction that the code makes of the worth and the load of the up-set
   pub keenness-is : (m : Meaning) (k worth load : ℕ) (s : ℕ → Bool) (f : Option Fraction) → k < t.len → soft t k ≡ true → worth ≡ m k 0 → load ≡ load_of expected_of t s →
       ((u : ℕ) → s u ≡ up t u k) → MatchOption f (load ≡ 0) (λ x. (x.num ≡ worth) × (x.den ≡ load)) → Keenness m t k f
-  keenness-is m k worth load s None lt is w l ups none = absurd (omega (arith, effort-pos k lt, l, load_same expected_of t s (λ u. up t u k) ups))
-  keenness-is m k worth load s (Some x) lt is w l ups h = (is, h.0 ∙ w, h.1 ∙ l ∙ load_same expected_of t s (λ u. up t u k) ups)
+  keenness-is m k worth load s None lt is w l ups none = absurd (omega (arith, effort-pos k lt, l, load-same expected_of t s (λ u. up t u k) ups))
+  keenness-is m k worth load s (Some x) lt is w l ups h = (is, h.0 ∙ w, h.1 ∙ l ∙ load-same expected_of t s (λ u. up t u k) ups)
 
 -- what stands at k, read off the keenness of each task
 module _ (m : Meaning) (t : Table) (fs : List (Option Fraction)) (each : (k : ℕ) → Keenness m t k (get_or fs k None)) where

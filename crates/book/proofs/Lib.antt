@@ -1,1 +1,4 @@
+pub mod Written
+pub mod Steps
+pub mod Equality
 pub mod Efforts

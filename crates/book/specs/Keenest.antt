@@ -3,12 +3,12 @@
 --     effort t k           the sum of the expected durations over the up-set of task k
 --     Keenness m t k f     f is the worth of task k at time 0 divided by its effort; absent where it isn't soft
 --     Keenest m t k        task k has the greatest such fraction, and no lower-numbered one has as great a one
-use Rattle.std.specs.Prelude.{◌≡◌, ℕ, ◌*◌, ◌<◌, ◌≤◌, Bool, true, false, Option, MatchOption}
+use Rattle.std.specs.Prelude.{Bool, true, false, ◌≡◌, ℕ, ◌*◌, ◌≤◌, ◌<◌, MatchOption, Option}
+use Rattle.book.specs.Worths.{Meaning}
 use Rattle.common.specs.declared.fraction.Fraction.{Fraction}
 use Rattle.sheet.specs.Links.{up}
 use Rattle.sheet.specs.Tables.{expected_of, is_soft, load_of, task_of}
 use Rattle.sheet.specs.declared.table.Table.{Table}
-use Rattle.book.specs.Worths.{Meaning}
 
 abbrev pub soft : Table → ℕ → Bool
 soft t k = is_soft (task_of t k).kind

@@ -3,10 +3,7 @@ pub mod Ramps
 pub mod Steps
 pub mod Weights
 pub mod Standard
+pub mod RampLaws
+pub mod StepLaws
+pub mod WorthLaws
 pub mod Keenest
-pub mod WorthsLemmas
-pub mod Written
-pub mod RampsLemmas
-pub mod Contents
-pub mod Alike
-pub mod StepsLemmas

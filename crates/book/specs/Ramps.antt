@@ -3,14 +3,16 @@
 --     sloped peak knee foot      the numbers keep the rule of a ramp
 --     ramp_of rs k               the ramp of task k; absent past the end
 --     ramp_meaning rs            what the ramps mean
-use Rattle.std.specs.Prelude.{◌≡◌, ℕ, ◌-◌, ◌*◌, ◌/◌, Bool, true, cond, not, ◌&&◌, List, [], ◌∷◌, replicate, Some, None, Option, ◌==◌, nat_le, nat_lt, slice_index_or, slice_set}
-use Rattle.common.specs.Refusals.{Rows}
+use Rattle.std.specs.Prelude.{Bool, true, not, ◌&&◌, List, [], ◌∷◌, ◌≡◌, ℕ, ◌-◌, ◌*◌, ◌/◌, nat_le, nat_lt, slice_index_or, set, replicate, Option, Some, None, if◌then◌else◌, ◌==◌}
 use Rattle.book.specs.Worths.{Meaning, top, latest}
 use Rattle.book.specs.declared.ramp.Ramp.{Ramp}
+use Rattle.common.specs.Refusals.{Rows}
 
 -- the peak up to the knee, then a straight fall, rounded down, and 0 from the foot on
 unfoldable pub slope : (peak knee foot at : ℕ) → ℕ
-slope peak knee foot at = cond (nat_le at knee) peak (cond (nat_lt at foot) (peak * (foot - at) / (foot - knee)) 0)
+slope peak knee foot at =
+    if nat_le at knee then peak
+    else (if nat_lt at foot then peak * (foot - at) / (foot - knee) else 0)
 
 abbrev pub sloped : (peak knee foot : ℕ) → Bool
 sloped peak knee foot = nat_le peak top && (nat_lt knee foot && nat_le foot latest)
@@ -38,9 +40,10 @@ ramp_rows k peak knee foot = (nat_le 16 k, 1) ∷ (not (sloped peak knee foot), 
 
 -- the ramps with a new one for task k
 abbrev pub ramped : List (Option Ramp) → (k peak knee foot : ℕ) → List (Option Ramp)
-ramped rs k peak knee foot = slice_set rs k (Some (record { peak = peak; knee = knee; foot = foot }))
+ramped rs k peak knee foot = set rs k (Some (record { peak = peak; knee = knee; foot = foot }))
 
 -- the call that answers n turns the ramps rs into rs': where it is accepted, task k has the new worths; every other worth stays
 abbrev pub Ramped : (rs rs' : List (Option Ramp)) (k peak knee foot n : ℕ) → Type 0
 Ramped rs rs' k peak knee foot n =
-    (task at : ℕ) → ramp_meaning rs' task at ≡ cond (n == 0 && task == k) (slope peak knee foot at) (ramp_meaning rs task at)
+    (task at : ℕ) → ramp_meaning rs' task at ≡
+    (if n == 0 && task == k then slope peak knee foot at else ramp_meaning rs task at)

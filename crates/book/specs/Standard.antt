@@ -7,8 +7,7 @@
 --     after c call         the contents after the call: as they were, where it is refused
 --     Called c c' call n   the call answers n and leaves c'
 --     Alike c d            each task has the same ramp, the same steps and the same weight
-use Rattle.std.specs.Prelude.{◌≡◌, ℕ, ◌<◌, List, Option, slice_set}
-use Rattle.common.specs.Refusals.{Rows, Smallest, first_fit, kept_unless}
+use Rattle.std.specs.Prelude.{List, ◌≡◌, ℕ, ◌<◌, set, Option}
 use Rattle.book.specs.Ramps.{no_ramps, ramp_meaning, ramp_of, ramp_rows, ramped}
 use Rattle.book.specs.Steps.{drop_rows, no_steps, step_added, step_meaning, step_rows, steps_dropped, steps_of, used}
 use Rattle.book.specs.Weights.{all_one, weight_of, weight_rows}
@@ -16,6 +15,7 @@ use Rattle.book.specs.Worths.{Meaning, added, weighed}
 use Rattle.book.specs.declared.ramp.Ramp.{Ramp}
 use Rattle.book.specs.declared.standard.StandardBook.{StandardBook}
 use Rattle.book.specs.declared.step.Steps.{Steps}
+use Rattle.common.specs.Refusals.{Answered, Rows, first_fit, kept_unless}
 
 pub record Contents : Type 0 where
   pub ramps : List (Option Ramp)
@@ -49,18 +49,16 @@ abbrev pub verdict : Contents → Call → ℕ
 verdict c call = first_fit (rows c call)
 
 abbrev pub changed : Contents → Call → Contents
-changed c (ramp k peak knee foot) = record { ramps = ramped c.ramps k peak knee foot; steps = c.steps; weights = c.weights }
-changed c (step k until worth) = record { ramps = c.ramps; steps = step_added c.steps k until worth; weights = c.weights }
-changed c (drop_steps k) = record { ramps = c.ramps; steps = steps_dropped c.steps k; weights = c.weights }
-changed c (weight k w) = record { ramps = c.ramps; steps = c.steps; weights = slice_set c.weights k w }
+changed c (ramp k peak knee foot) = record c { ramps = ramped c.ramps k peak knee foot }
+changed c (step k until worth) = record c { steps = step_added c.steps k until worth }
+changed c (drop_steps k) = record c { steps = steps_dropped c.steps k }
+changed c (weight k w) = record c { weights = set c.weights k w }
 
-unfoldable pub after : Contents → Call → Contents
+abbrev pub after : Contents → Call → Contents
 after c call = kept_unless (verdict c call) (changed c call) c
 
-pub record Called (c c' : Contents) (call : Call) (n : ℕ) : Type 0 where
-  pub says : n ≡ verdict c call
-  pub smallest : Smallest (rows c call) n
-  pub leaves : c' ≡ after c call
+abbrev pub Called : (c c' : Contents) (call : Call) (n : ℕ) → Type 0
+Called c c' call n = Answered (rows c call) (changed c call) c c' n
 
 pub record Alike (c d : Contents) : Type 0 where
   pub ramps : (k : ℕ) → k < 16 → ramp_of c.ramps k ≡ ramp_of d.ramps k

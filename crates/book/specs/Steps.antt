@@ -4,16 +4,16 @@
 --     used own             of the places for a task's own steps, those in use
 --     steps_of all k       the steps of task k; none past the end
 --     step_meaning all     what the steps of all tasks mean
-use Rattle.std.specs.Prelude.{◌≡◌, ℕ, ◌+◌, ◌≤◌, max, Bool, true, cond, not, ◌&&◌, List, [], ◌∷◌, ◌++◌, length, take, replicate, ◌==◌, nat_le, nat_lt, slice_index_or, slice_set}
-use Rattle.common.specs.Refusals.{Rows}
+use Rattle.std.specs.Prelude.{Bool, true, not, ◌&&◌, List, [], ◌∷◌, ◌++◌, ◌≡◌, ℕ, ◌+◌, ◌≤◌, max, nat_le, nat_lt, length, slice_index_or, set, take, replicate, find, if◌then◌else◌, ◌==◌}
 use Rattle.book.specs.Worths.{Meaning, top, latest}
 use Rattle.book.specs.declared.step.Step.{Step}
 use Rattle.book.specs.declared.step.Steps.{Steps}
+use Rattle.std.specs.Option.{option_map_or}
+use Rattle.common.specs.Refusals.{Rows}
 
 -- the worth of the first step whose until is at least the time, and 0 after the last
-unfoldable pub steps_worth : List Step → ℕ → ℕ
-steps_worth [] at = 0
-steps_worth (s ∷ ss) at = cond (nat_le at s.until) s.worth (steps_worth ss at)
+abbrev pub steps_worth : List Step → ℕ → ℕ
+steps_worth ss at = option_map_or (λ s. s.worth) (find (λ s. nat_le at s.until) ss) 0
 
 abbrev pub in_limits : Step → Bool
 in_limits s = nat_le s.until latest && nat_le s.worth top
@@ -66,24 +66,27 @@ step_rows all k until worth =
 
 -- one step more
 abbrev pub pushed : Steps → (until worth : ℕ) → Steps
-pushed own until worth = record { len = own.len + 1; list = slice_set own.list own.len (a_step until worth) }
+pushed own until worth = record { len = own.len + 1; list = set own.list own.len (a_step until worth) }
 
 abbrev pub step_added : List Steps → (k until worth : ℕ) → List Steps
-step_added all k until worth = slice_set all k (pushed (steps_of all k) until worth)
+step_added all k until worth = set all k (pushed (steps_of all k) until worth)
 
 -- the refusals that dropping the steps of task k may get
 abbrev pub drop_rows : (k : ℕ) → Rows
 drop_rows k = (nat_le 16 k, 1) ∷ []
 
 abbrev pub steps_dropped : List Steps → ℕ → List Steps
-steps_dropped all k = slice_set all k empty_steps
+steps_dropped all k = set all k empty_steps
 
 -- the call that answers n leaves the steps all': where it is accepted, task k is worth the greater of what it was and of what
 -- the step is worth up to its time; every other worth stays
 abbrev pub Stepped : (all all' : List Steps) (k until worth n : ℕ) → Type 0
 Stepped all all' k until worth n =
-    (task at : ℕ) → step_meaning all' task at ≡ cond (n == 0 && task == k) (max (step_meaning all task at) (cond (nat_le at until) worth 0)) (step_meaning all task at)
+    (task at : ℕ) → step_meaning all' task at ≡
+    (if n == 0 && task == k then max (step_meaning all task at) (if nat_le at until then worth else 0)
+    else step_meaning all task at)
 
 -- the call that answers n leaves the steps all': where it is accepted, task k is worth nothing; every other worth stays
 abbrev pub Dropped : (all all' : List Steps) (k n : ℕ) → Type 0
-Dropped all all' k n = (task at : ℕ) → step_meaning all' task at ≡ cond (n == 0 && task == k) 0 (step_meaning all task at)
+Dropped all all' k n =
+    (task at : ℕ) → step_meaning all' task at ≡ (if n == 0 && task == k then 0 else step_meaning all task at)

@@ -1,5 +1,5 @@
 -- Weights: that of each task, and what the call that sets one answers and leaves. Assumes nothing.
-use Rattle.std.specs.Prelude.{◌≡◌, ℕ, cond, not, ◌&&◌, List, [], ◌∷◌, replicate, ◌==◌, nat_le, slice_index_or}
+use Rattle.std.specs.Prelude.{not, ◌&&◌, List, [], ◌∷◌, ◌≡◌, ℕ, nat_le, slice_index_or, replicate, if◌then◌else◌, ◌==◌}
 use Rattle.common.specs.Refusals.{Rows}
 
 -- the weight of task k; 1 past the end
@@ -15,4 +15,4 @@ weight_rows k w = (nat_le 16 k, 1) ∷ (not (nat_le 1 w && nat_le w 16), 8) ∷ 
 
 -- the call that answers n turns the weights ws into ws': where it is accepted, task k has the new weight; every other stays
 abbrev pub Reweighed : (ws ws' : List ℕ) (k w n : ℕ) → Type 0
-Reweighed ws ws' k w n = (task : ℕ) → weight_of ws' task ≡ cond (n == 0 && task == k) w (weight_of ws task)
+Reweighed ws ws' k w n = (task : ℕ) → weight_of ws' task ≡ (if n == 0 && task == k then w else weight_of ws task)

@@ -5,7 +5,7 @@
 --     added m n      two books together
 --     weighed w m    a book times each task's weight
 --     Layered m      m is the meaning of one book, or of books layered in any way
-use Rattle.std.specs.Prelude.{◌≡◌, ℕ, ◌+◌, ◌*◌, ◌<◌, ◌≤◌, min}
+use Rattle.std.specs.Prelude.{◌≡◌, ℕ, ◌+◌, ◌*◌, ◌≤◌, ◌<◌, min}
 
 abbrev pub top : ℕ
 top = 1000000

@@ -1,28 +1,26 @@
 // What holds of every book.
-ghost use Rattle.std.specs.Prelude.{◌≡◌, ◌-◌, ◌^◌};
+ghost use Rattle.std.specs.Prelude.{◌≡◌, ◌-◌, ◌^◌, ◌↔◌, IsTrue};
+ghost use Rattle.book.specs.Standard.{Alike, contents};
 ghost use Rattle.book.specs.Worths.{Layered, Meaning, Sound};
 
 use crate::book::{Book, LATEST, TOP};
 use crate::ramp::RampBook;
+use crate::standard::StandardBook;
 use common::Expected;
 
 // A kind of book that states its meaning and shows the laws of the trait is sound.
-pub fn kind_stands<B: Book>(book: &B) -> u8
-    ensures { Sound (meaning book.now) }
-{
-    0
-}
+pub fn kind_stands<B: Book>(book: &B)
+    ensures { Sound (B.meaning book.now) }
+{}
 
 // Whatever is layered over sound books, in any way, is sound.
-pub fn layers_stand() -> u8
+pub fn layers_stand()
     ensures { (m : Meaning) → Layered m → Sound m }
-{
-    0
-}
+{}
 
 // The worth at the last 32-bit time is answered as at any other.
 pub fn last_worth<B: Book>(book: &B, task: u8) -> u32
-    ensures { result ≡ meaning book.now task (2 ^ 32 - 1) }
+    ensures { result ≡ B.meaning book.now task (2 ^ 32 - 1) }
 {
     book.worth(task, Expected(u32::MAX))
 }
@@ -35,4 +33,12 @@ pub fn widest_product() -> (u32, u32)
     let mut book = RampBook::new();
     let _ = book.ramp(0, TOP, 0, LATEST);
     (book.worth(0, Expected(1)), last_worth(&book, 0))
+}
+
+// Equal books are the same value, and have the same curves and weights.
+pub fn equal_books(a: &StandardBook, b: &StandardBook) -> bool
+    ensures same { IsTrue result ↔ (a.now ≡ b.now) }
+    ensures alike { IsTrue result ↔ Alike (contents a.now) (contents b.now) }
+{
+    a == b
 }

@@ -1,4 +1,6 @@
 // Worth books: what a soft task is worth by the time at which it ends.
+#![tactic(auto)]
+
 mod book;
 mod keenness;
 mod laws;
@@ -10,7 +12,7 @@ mod weights;
 
 pub use book::{Book, LATEST, TOP};
 pub use keenness::keenest;
-pub use laws::{kind_stands, last_worth, layers_stand, widest_product};
+pub use laws::{equal_books, kind_stands, last_worth, layers_stand, widest_product};
 pub use layers::{Sum, Weighted};
 pub use ramp::RampBook;
 pub use standard::StandardBook;

@@ -1,17 +1,15 @@
 // A book of ramps.
-ghost use Rattle.std.specs.Prelude.{◌≡◌, ℕ, true, length, Decides, nat_eq};
-ghost use Rattle.std.specs.Ordering.{on, eq_of_both};
+ghost use Rattle.std.specs.Prelude.{◌≡◌, true, ℕ, length};
+ghost use Rattle.book.specs.Ramps.{keeps_rule, no_ramps, ramp_meaning, ramp_of, ramp_rows};
+ghost use Rattle.book.specs.Ramps.{ramped, slope, sloped, Ramped};
+ghost use Rattle.book.specs.RampLaws.{ramps-sound};
 ghost use Rattle.common.specs.Refusals.{Answered, outcome};
-ghost use Rattle.book.specs.Ramps.{keeps_rule, no_ramps, ramp_meaning, ramp_of, ramp_rows, ramped, slope, sloped, Ramped};
-ghost use Rattle.book.specs.RampsLemmas.{ramps_sound};
-ghost use Rattle.std.specs.Cmp.Rules.{comparing};
-ghost use Rattle.std.proofs.Common.{rules, arith};
 
 use crate::book::{Book, LATEST, TOP};
 use common::{Expected, MOST, Refusal};
 
 // Worth the peak up to the knee, then less and less, and nothing from the foot on.
-#[derive(Clone, Copy)]
+#[derive(Clone, Copy, PartialEq, Eq)]
 pub struct Ramp {
     peak: u32,
     knee: u32,
@@ -19,7 +17,7 @@ pub struct Ramp {
 }
 
 // At most one ramp for each task.
-#[derive(Clone, Copy)]
+#[derive(Clone, Copy, PartialEq, Eq)]
 pub struct RampBook {
     ramps: [Option<Ramp>; 16],
     ghost whole: { length ramps ≡ 16 },
@@ -28,6 +26,7 @@ pub struct RampBook {
 
 impl Ramp {
     // The product of the peak and what is left to the foot needs 64 bits.
+    #[tactic(auto, unfolding(crate::specs::Ramps::slope))]
     fn at(&self, at: Expected) -> u32
         requires { sloped self.now.peak self.now.knee self.now.foot ≡ true }
         ensures { result ≡ slope self.now.peak self.now.knee self.now.foot at.0 }
@@ -51,8 +50,10 @@ impl RampBook {
     }
 
     // Gives the task a ramp, in place of the one that it may have.
+    #[tactic(auto, using(common::proofs::Refusals::fitting))]
     pub fn ramp(&mut self, t: u8, peak: u32, knee: u32, foot: u32) -> Result<(), Refusal>
-        ensures answers { Answered (ramp_rows t peak knee foot) (ramped self.old.ramps t peak knee foot) self.old.ramps self.new.ramps (outcome result) }
+        ensures answers { Answered (ramp_rows t peak knee foot) (ramped self.old.ramps t peak knee foot)
+            self.old.ramps self.new.ramps (outcome result) }
         ensures means { Ramped self.old.ramps self.new.ramps t peak knee foot (outcome result) }
     {
         if t >= MOST {
@@ -69,11 +70,7 @@ impl RampBook {
 impl Book for RampBook {
     ghost meaning = { λ x. ramp_meaning x.ramps };
 
-    ghost bounded = { λ x. (ramps_sound x.ramps x.whole x.sound).bounded };
-
-    ghost falls = { λ x. (ramps_sound x.ramps x.whole x.sound).falls };
-
-    ghost bare = { λ x. (ramps_sound x.ramps x.whole x.sound).bare };
+    ghost sound = { λ x. ramps-sound x.ramps x.whole x.sound };
 
     fn worth(&self, task: u8, at: Expected) -> u32 {
         if task >= MOST {
@@ -83,25 +80,5 @@ impl Book for RampBook {
             Some(ramp) => ramp.at(at),
             None => 0,
         }
-    }
-}
-
-impl PartialEq for Ramp {
-    ghost eq = { eq_of_both (on (λ v. v.peak) nat_eq) (eq_of_both (on (λ v. v.knee) nat_eq) (on (λ v. v.foot) nat_eq)) };
-
-    ghost laws = { Prim.search (comparing, rules) };
-
-    fn eq(&self, other: &Ramp) -> bool {
-        self.peak == other.peak && self.knee == other.knee && self.foot == other.foot
-    }
-}
-
-impl PartialEq for RampBook {
-    ghost equals = { λ x y r. Decides r (x ≡ y) };
-
-    ghost laws = { first_of (Prim.search (comparing, rules), Prim.grind (arith, Self.row.coded.inj)) };
-
-    fn eq(&self, other: &RampBook) -> bool {
-        self.ramps[..] == other.ramps[..]
     }
 }

@@ -1,10 +1,11 @@
 // The standard book: ramps and steps added, and then weighed.
-ghost use Rattle.std.specs.Prelude.{◌≡◌, Decides};
+ghost use Rattle.std.specs.Prelude.{◌≡◌};
+ghost use Rattle.book.specs.Standard.{Called, contents, drop_steps, nothing, ramp, step, weight, worth_of};
+ghost use Rattle.book.specs.RampLaws.{ramps-sound};
+ghost use Rattle.book.specs.StepLaws.{steps-sound};
+ghost use Rattle.book.specs.WorthLaws.{added-sound, weighed-sound};
+ghost use Rattle.book.specs.Weights.{weight_of};
 ghost use Rattle.common.specs.Refusals.{outcome};
-ghost use Rattle.book.specs.Standard.{Alike, Called, contents, drop_steps, nothing, ramp, step, weight, worth_of};
-ghost use Rattle.book.specs.Contents.{standard_sound};
-ghost use Rattle.std.specs.Cmp.Rules.{comparing};
-ghost use Rattle.std.proofs.Common.{rules};
 
 use crate::book::Book;
 use crate::layers::{Sum, Weighted};
@@ -13,7 +14,7 @@ use crate::step::StepBook;
 use common::{Expected, Refusal};
 
 // Equal books are equal values.
-#[derive(Clone, Copy)]
+#[derive(Clone, Copy, PartialEq, Eq)]
 pub struct StandardBook {
     layers: Weighted<Sum<RampBook, StepBook>>,
 }
@@ -64,27 +65,13 @@ impl StandardBook {
 impl Book for StandardBook {
     ghost meaning = { λ x. worth_of (contents x) };
 
-    ghost bounded = { λ x. (standard_sound x).bounded };
-
-    ghost falls = { λ x. (standard_sound x).falls };
-
-    ghost bare = { λ x. (standard_sound x).bare };
+    ghost sound = { λ x. let ramps = x.layers.inner.first in
+        let steps = x.layers.inner.second in
+        let curves = added-sound (ramps-sound ramps.ramps ramps.whole ramps.sound)
+        (steps-sound steps.steps steps.whole steps.sound) in
+        weighed-sound (weight_of x.layers.weights.list) curves };
 
     fn worth(&self, task: u8, at: Expected) -> u32 {
         self.layers.worth(task, at)
-    }
-}
-
-impl PartialEq for StandardBook {
-    ghost equals = { λ x y r. Decides r (x ≡ y) × Decides r (Alike (contents x) (contents y)) };
-
-    ghost laws = { Prim.search (comparing, rules) };
-
-    fn eq(&self, other: &StandardBook) -> bool {
-        let (a, b) = (&self.layers, &other.layers);
-        if a.weights != b.weights {
-            return false;
-        }
-        a.inner.first == b.inner.first && a.inner.second == b.inner.second
     }
 }

@@ -1,16 +1,14 @@
 // A weight for each task.
-ghost use Rattle.std.specs.Prelude.{◌≡◌, ℕ, ◌≤◌, length, Decides, slice_set};
-ghost use Rattle.common.specs.Refusals.{Answered, outcome};
+ghost use Rattle.std.specs.Prelude.{◌≡◌, ℕ, ◌≤◌, length, set};
 ghost use Rattle.book.specs.Weights.{Reweighed, all_one, weight_of, weight_rows};
-ghost use Rattle.std.specs.Cmp.Rules.{comparing};
-ghost use Rattle.std.proofs.Common.{rules, arith};
+ghost use Rattle.common.specs.Refusals.{Answered, outcome};
 
 use common::{MOST, Refusal};
 
 const HEAVIEST: u32 = 16;
 
 // From 1 to 16.
-#[derive(Clone, Copy)]
+#[derive(Clone, Copy, PartialEq, Eq)]
 pub struct Weights {
     list: [u8; 16],
     ghost whole: { length list ≡ 16 },
@@ -37,8 +35,10 @@ impl Weights {
         self.list[t as usize] as u32
     }
 
+    #[tactic(auto, using(common::proofs::Refusals::fitting))]
     pub fn put(&mut self, t: u8, weight: u32) -> Result<(), Refusal>
-        ensures answers { Answered (weight_rows t weight) (slice_set self.old.list t weight) self.old.list self.new.list (outcome result) }
+        ensures answers { Answered (weight_rows t weight) (set self.old.list t weight)
+            self.old.list self.new.list (outcome result) }
         ensures means { Reweighed self.old.list self.new.list t weight (outcome result) }
     {
         if t >= MOST {
@@ -49,15 +49,5 @@ impl Weights {
         }
         self.list[t as usize] = weight as u8;
         Ok(())
-    }
-}
-
-impl PartialEq for Weights {
-    ghost equals = { λ x y r. Decides r (x ≡ y) };
-
-    ghost laws = { first_of (Prim.search (comparing, rules), Prim.grind (arith, Self.row.coded.inj)) };
-
-    fn eq(&self, other: &Weights) -> bool {
-        self.list[..] == other.list[..]
     }
 }

@@ -1,12 +1,13 @@
 -- The laws of the sets of specs/Sets.antt, by their lowest digit and their half. Assumes nothing.
-use Rattle.std.proofs.Common.{◌≡◌, ℕ, zero, suc, ◌+◌, ◌-◌, ◌*◌, ◌/◌, ◌%◌, ◌^◌, ◌<◌, ◌≤◌, Bool, true, false, cond, not, ◌&&◌, ◌||◌, eqb, sym, refl, ap, ◌∙◌, subst, ap₂, ⊎_elim, mod-eq_of_lt, pow-suc, mul-suc, div-one, arith, pow_mono, shr-shr}
-use native.Mathlib.Nat.{div-eq_of_lt}
-use lib.Bits.{bit_and, bit_or, and_mask, and_step, or_step, or_zero_r}
+use Rattle.std.proofs.Common.{◌≡◌, refl, sym, ap, ap₂, subst, ◌∙◌, Bool, true, false, cond, not, ◌&&◌, ◌||◌, ⊎_elim, ℕ, zero, suc, ◌+◌, ◌-◌, ◌*◌, ◌/◌, ◌%◌, ◌^◌, ◌≤◌, ◌<◌, div-one, mod-eq_of_lt, pow-suc, mul-suc, arith, bit_and, bit_or, eqb, pow_mono, shr-shr, eq-eqb}
+use Rattle.std.proofs.Math.Dec.{eqb-suc-suc, eqb-suc-zero, eqb-zero-suc}
+use Rattle.std.proofs.Math.Nat.{div-eq_of_lt}
+use Rattle.std.proofs.Math.Pow.{pow-lt}
+use Rattle.std.proofs.lemmas.Bool.{both_ways, cases_lt, false≢true, or_cases, or_left, or_right}
+use Rattle.std.proofs.lemmas.Grind.{common_steps}
+use Rattle.std.proofs.lemmas.Nat.{and_mask}
+use lib.Bits.{and_step, or_step, or_zero_r}
 use lib.Count.{ones, ones_step, count_trailing_zeros, under}
-use lib.Dec.{eqb-suc-suc, eqb-suc-zero, eqb-zero-suc}
-use lib.Pow.{pow-lt}
-use Rattle.std.proofs.lemmas.Bool.{both_ways, cases_lt, eq-eqb, false≢true, or_cases, or_left, or_right}
-use Rattle.std.proofs.lemmas.Bool.Decides.{nat_tests}
 use Rattle.common.specs.Sets.{has, adding, removing, Lowest, any, sum_where}
 
 -- ---- a set by its lowest digit and its half
@@ -31,9 +32,6 @@ has-past n s u h le =
 pub has-none : (u : ℕ) → has 0 u ≡ false
 has-none u = has-past 0 0 u (omega arith) (omega arith)
 
-pub has_within : (n s u : ℕ) → s < 2 ^ n → has s u ≡ true → u < n
-has_within n s u h e = ⊎_elim (λ lt. lt) (λ le. absurd (both_ways _ (has-past n s u h le) e)) (cases_lt u n)
-
 -- a set is no less than the digit of its member
 has-least : (s t : ℕ) → has s t ≡ true → 2 ^ t ≤ s
 has-least s t e =
@@ -42,16 +40,16 @@ has-least s t e =
 -- ---- one more and one less
 
 adding-zero : (s : ℕ) → adding s 0 ≡ s / 2 * 2 + 1
-adding-zero s = rw has-zero (grind (arith, nat_tests))
+adding-zero s = rw has-zero (grind (arith, common_steps))
 
 adding-suc : (s t : ℕ) → adding s (suc t) ≡ adding (s / 2) t * 2 + s % 2
-adding-suc s t = let p = pow-suc 2 t in rw has-suc (grind (arith, nat_tests))
+adding-suc s t = let p = pow-suc 2 t in rw has-suc (grind (arith, common_steps))
 
 removing-zero : (s : ℕ) → removing s 0 ≡ s / 2 * 2 + 0
-removing-zero s = rw has-zero (grind (arith, nat_tests))
+removing-zero s = rw has-zero (grind (arith, common_steps))
 
 removing-suc : (s t : ℕ) → removing s (suc t) ≡ removing (s / 2) t * 2 + s % 2
-removing-suc s t = let p = pow-suc 2 t in let q = has-least (s / 2) t in rw has-suc (grind (arith, nat_tests))
+removing-suc s t = let p = pow-suc 2 t in let q = has-least (s / 2) t in rw has-suc (grind (arith, common_steps))
 
 -- what a set with lowest digit d and half h has
 has-low : {s : ℕ} (h d : ℕ) → s ≡ h * 2 + d → d < 2 → has s 0 ≡ eqb d 1
@@ -70,23 +68,23 @@ module _ (op : ℕ → ℕ → ℕ) (d : ℕ) (lt : d < 2) (low : (s : ℕ) → 
       has-high _ (s % 2) u (high s t) (omega arith) ∙ has-changed f here there (s / 2) t u ∙ ap₂ f (sym (has-suc s u)) (sym (eqb-suc-suc u t))
 
 pub has-adding : (s t u : ℕ) → has (adding s t) u ≡ (has s u || eqb u t)
-has-adding = has-changed adding 1 (omega arith) adding-zero adding-suc ◌||◌ (λ b e h. grind (arith, nat_tests)) (λ b e h. grind (arith, nat_tests))
+has-adding = has-changed adding 1 (omega arith) adding-zero adding-suc ◌||◌ (λ b e h. grind (arith, common_steps)) (λ b e h. grind (arith, common_steps))
 
 pub has-removing : (s t u : ℕ) → has (removing s t) u ≡ (has s u && not (eqb u t))
 has-removing =
-    has-changed removing 0 (omega arith) removing-zero removing-suc (λ b e. b && not e) (λ b e h. grind (arith, nat_tests)) (λ b e h. grind (arith, nat_tests))
+    has-changed removing 0 (omega arith) removing-zero removing-suc (λ b e. b && not e) (λ b e h. grind (arith, common_steps)) (λ b e h. grind (arith, common_steps))
 
 -- ---- a set is its members
 
-pub same_set : (a b : ℕ) → ((u : ℕ) → has a u ≡ has b u) → a ≡ b
-same_set a b same = below (a + b) a b (omega arith) (omega arith) same
+pub same-set : (a b : ℕ) → ((u : ℕ) → has a u ≡ has b u) → a ≡ b
+same-set a b same = below (a + b) a b (omega arith) (omega arith) same
   where
     below : (n a b : ℕ) → a ≤ n → b ≤ n → ((u : ℕ) → has a u ≡ has b u) → a ≡ b
     below zero a b h k same = omega arith
     below (suc n) a b h k same =
         let halves = below n (a / 2) (b / 2) (omega arith) (omega arith) (λ u. sym (has-suc a u) ∙ same (suc u) ∙ has-suc b u) in
         let low = sym (has-zero a) ∙ same 0 ∙ has-zero b in
-        grind (arith, nat_tests)
+        grind (arith, common_steps)
 
 -- ---- the count of members
 
@@ -99,7 +97,7 @@ ones-adding s zero e =
     let z = sym (has-zero s) ∙ e in
     let r = ones-digit (s / 2) 1 (adding-zero s) (omega arith) in
     let l = ones_step s in
-    grind (arith, nat_tests)
+    grind (arith, common_steps)
 ones-adding s (suc t) e =
     let more = ones-adding (s / 2) t (sym (has-suc s t) ∙ e) in
     let r = ones-digit (adding (s / 2) t) (s % 2) (adding-suc s t) (omega arith) in
@@ -168,35 +166,35 @@ any-from (suc n) p e =
     (λ h. (n, omega arith, h))
     (or_cases (any n p) (p n) e)
 
-pub sum_same : (p q : ℕ → Bool) (f : ℕ → ℕ) (n : ℕ) → ((k : ℕ) → k < n → p k ≡ q k) → sum_where p f n ≡ sum_where q f n
-sum_same p q f zero same = refl
-sum_same p q f (suc n) same =
-    ap₂ (λ x b. x + cond b (f n) 0) (sum_same p q f n (λ k h. same k (omega arith))) (same n (omega arith))
+pub sum-same : (p q : ℕ → Bool) (f : ℕ → ℕ) (n : ℕ) → ((k : ℕ) → k < n → p k ≡ q k) → sum_where p f n ≡ sum_where q f n
+sum-same p q f zero same = refl
+sum-same p q f (suc n) same =
+    ap₂ (λ x b. x + cond b (f n) 0) (sum-same p q f n (λ k h. same k (omega arith))) (same n (omega arith))
 
-pub sum_bound : (p : ℕ → Bool) (f : ℕ → ℕ) (n m : ℕ) → ((k : ℕ) → k < n → f k ≤ m) → sum_where p f n ≤ m * n
-sum_bound p f zero m most = omega arith
-sum_bound p f (suc n) m most =
-    let front = sum_bound p f n m (λ k h. most k (omega arith)) in
+pub sum-bound : (p : ℕ → Bool) (f : ℕ → ℕ) (n m : ℕ) → ((k : ℕ) → k < n → f k ≤ m) → sum_where p f n ≤ m * n
+sum-bound p f zero m most = omega arith
+sum-bound p f (suc n) m most =
+    let front = sum-bound p f n m (λ k h. most k (omega arith)) in
     let last = most n (omega arith) in
     let s = mul-suc m n in
-    grind (arith, nat_tests)
+    grind (arith, common_steps)
 
 -- fewer numbers pass, so the sum is no greater; less, where one that adds to it is left out
 module _ (p q : ℕ → Bool) (f : ℕ → ℕ) (each : (k : ℕ) → p k ≡ true → q k ≡ true) where
   pub sum-within : (n : ℕ) → sum_where p f n ≤ sum_where q f n
   sum-within zero = omega arith
-  sum-within (suc n) = let front = sum-within n in let last = each n in grind (arith, nat_tests)
+  sum-within (suc n) = let front = sum-within n in let last = each n in grind (arith, common_steps)
 
-  pub sum_less : (n k : ℕ) → k < n → p k ≡ false → q k ≡ true → 0 < f k → sum_where p f n < sum_where q f n
-  sum_less zero k h out in' pos = absurd (omega arith)
-  sum_less (suc n) k h out in' pos =
+  pub sum-less : (n k : ℕ) → k < n → p k ≡ false → q k ≡ true → 0 < f k → sum_where p f n < sum_where q f n
+  sum-less zero k h out in' pos = absurd (omega arith)
+  sum-less (suc n) k h out in' pos =
       ⊎_elim
-      (λ lt. let front = sum_less n k lt out in' pos in let last = each n in grind (arith, nat_tests))
+      (λ lt. let front = sum-less n k lt out in' pos in let last = each n in grind (arith, common_steps))
       (λ ge.
       let front = sum-within n in
       let e : n ≡ k = omega arith in
       let o : p n ≡ false = ap p e ∙ out in
       let i : q n ≡ true = ap q e ∙ in' in
       let w : 0 < f n = subst (λ j. 0 < f j) (sym e) pos in
-      grind (arith, nat_tests))
+      grind (arith, common_steps))
       (cases_lt k n)

@@ -1,4 +1,4 @@
 pub mod Sets
 pub mod Ranks
 pub mod Refusals
-pub mod Fractions
+pub mod RankLaws

@@ -1,5 +1,5 @@
 -- The choice of the first best. Assumes nothing.
-use Rattle.std.specs.Prelude.{◌≡◌, ℕ, ◌<◌, Bool, true, false, List, length, get_or, Some, None, Option, slice_index_or}
+use Rattle.std.specs.Prelude.{Bool, true, false, List, ◌≡◌, ℕ, ◌<◌, length, slice_index_or, Option, Some, None}
 
 -- the rank at i is the best of the list, and the first of the best: none beats it, and it beats each before it
 pub record FirstBest {R : Type 0} (beats : R → R → Bool) (xs : List R) (i : ℕ) : Type 0 where
@@ -16,6 +16,6 @@ or_absent beats None y = false
 -- of ranks of which some are absent, the one at i is the first best of those that are there
 pub record FirstPresent {R : Type 0} (beats : R → R → Bool) (xs : List (Option R)) (i : ℕ) : Type 0 where
   pub rank : R
-  pub there : get_or xs i None ≡ Some rank
+  pub there : slice_index_or xs i None ≡ Some rank
   pub best : (k : ℕ) (x : R) → slice_index_or xs k None ≡ Some x → beats x rank ≡ false
   pub first : (k : ℕ) (x : R) → k < i → slice_index_or xs k None ≡ Some x → beats rank x ≡ true

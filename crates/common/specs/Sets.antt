@@ -6,7 +6,7 @@
 --     Lowest s t         t is the least member of s
 --     any n p            some number below n passes p
 --     sum_where p f n    the sum of f k over the numbers k below n that pass p
-use Rattle.std.specs.Prelude.{◌≡◌, ℕ, zero, suc, ◌+◌, ◌-◌, ◌/◌, ◌%◌, ◌^◌, ◌<◌, Bool, true, false, cond, ◌||◌, ◌==◌}
+use Rattle.std.specs.Prelude.{◌≡◌, Bool, true, false, ◌||◌, ℕ, zero, suc, ◌+◌, ◌-◌, ◌/◌, ◌%◌, ◌^◌, ◌<◌, if◌then◌else◌, ◌==◌}
 
 abbrev pub bit : ℕ → ℕ → ℕ
 bit s t = s / 2 ^ t % 2
@@ -15,10 +15,10 @@ unfoldable pub has : ℕ → ℕ → Bool
 has s t = bit s t == 1
 
 abbrev pub adding : ℕ → ℕ → ℕ
-adding s t = cond (has s t) s (s + 2 ^ t)
+adding s t = if has s t then s else s + 2 ^ t
 
 abbrev pub removing : ℕ → ℕ → ℕ
-removing s t = cond (has s t) (s - 2 ^ t) s
+removing s t = if has s t then s - 2 ^ t else s
 
 pub record Lowest (s t : ℕ) : Type 0 where
   pub member : has s t ≡ true
@@ -30,4 +30,4 @@ any (suc n) p = any n p || p n
 
 abbrev pub sum_where : (ℕ → Bool) → (ℕ → ℕ) → ℕ → ℕ
 sum_where p f zero = 0
-sum_where p f (suc n) = sum_where p f n + cond (p n) (f n) 0
+sum_where p f (suc n) = sum_where p f n + (if p n then f n else 0)

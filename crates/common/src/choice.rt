@@ -1,7 +1,8 @@
 // The one rule by which the best is chosen: the lowest index among the best.
-ghost use Rattle.std.specs.Prelude.{◌≡◌, ℕ, Bool, true, false, length, None, MatchOption, slice_index_or};
+ghost use Rattle.std.specs.Prelude.{◌≡◌, Bool, ℕ, slice_index_or, length, MatchOption, None};
+ghost use Rattle.std.specs.Cmp.{IsStrictWeakOrder};
 ghost use Rattle.common.specs.Ranks.{FirstBest, FirstPresent, or_absent};
-ghost use Rattle.std.proofs.Common.{rules};
+ghost use Rattle.common.specs.RankLaws.{present-ordered};
 
 // A rank: its comparison is a total order up to equal rank. Of two ranks at most one is better, and where neither x is better
 // than y nor y than z, x is not better than z.
@@ -11,18 +12,14 @@ pub trait Rank {
     fn better(&self, other: &Self) -> bool
         ensures { result ≡ beats self.now other.now };
 
-    ghost one_way: { (x y : Self) → beats x y ≡ true → beats y x ≡ false };
-
-    ghost chain: { (x y z : Self) → beats x y ≡ false → beats y z ≡ false → beats x z ≡ false };
+    ghost ordered: { IsStrictWeakOrder beats };
 }
 
 // Where some ranks are absent, any rank is better than none.
 impl<R: Rank> Rank for Option<R> {
-    ghost beats = { or_absent R.Rank.beats };
+    ghost beats = { or_absent R.beats };
 
-    ghost one_way = { Prim.search rules };
-
-    ghost chain = { Prim.search rules };
+    ghost ordered = { present-ordered R.ordered };
 
     fn better(&self, other: &Option<R>) -> bool {
         match (self, other) {
@@ -35,7 +32,7 @@ impl<R: Rank> Rank for Option<R> {
 
 // The lowest index among the best ranks; none of an empty slice.
 pub fn first_best<R: Rank>(ranks: &[R]) -> Option<usize>
-    ensures { MatchOption result (length ranks.now ≡ 0) (FirstBest beats ranks.now) }
+    ensures { MatchOption result (length ranks.now ≡ 0) (FirstBest R.beats ranks.now) }
 {
     if ranks.is_empty() {
         return None;
@@ -51,7 +48,7 @@ pub fn first_best<R: Rank>(ranks: &[R]) -> Option<usize>
 
 // The lowest index among the best of the ranks that are there; none where all are absent.
 pub fn first_present<R: Rank>(ranks: &[Option<R>]) -> Option<usize>
-    ensures { MatchOption result ((k : ℕ) → slice_index_or ranks.now k None ≡ None) (FirstPresent beats ranks.now) }
+    ensures { MatchOption result ((k : ℕ) → slice_index_or ranks.now k None ≡ None) (FirstPresent R.beats ranks.now) }
 {
     let Some(best) = first_best(ranks) else {
         return None;

@@ -1,8 +1,6 @@
 // Fractions, of which the greatest is the best.
-ghost use Rattle.std.specs.Prelude.{◌≡◌, ◌*◌, ◌<◌, MatchOption, nat_lt};
-ghost use Rattle.std.proofs.lemmas.Bool.{ltb-false, le-ltb};
-ghost use Rattle.common.specs.Fractions.{cross_chain};
-ghost use Rattle.std.proofs.Common.{rules, arith};
+ghost use Rattle.std.specs.Prelude.{◌≡◌, ◌*◌, ◌<◌, nat_lt, MatchOption};
+ghost use Rattle.common.specs.RankLaws.{fractions-ordered};
 
 use crate::choice::Rank;
 
@@ -29,9 +27,7 @@ impl Fraction {
 impl Rank for Fraction {
     ghost beats = { λ x y. nat_lt (y.num * x.den) (x.num * y.den) };
 
-    ghost one_way = { first_of (Prim.search rules, Prim.grind (arith, Self.row.coded.inj)) };
-
-    ghost chain = { λ x y z h k. le-ltb _ _ (cross_chain x.num x.den y.num y.den z.num z.den y.whole (ltb-false _ _ h) (ltb-false _ _ k)) };
+    ghost ordered = { fractions-ordered (λ f. f.num) (λ f. f.den) (λ f. f.whole) };
 
     fn better(&self, other: &Fraction) -> bool {
         (other.num as u64) * (self.den as u64) < (self.num as u64) * (other.den as u64)

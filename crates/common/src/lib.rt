@@ -1,4 +1,6 @@
 // What every layer uses: ticks, sets of task numbers, the choice of the best, and refusals.
+#![tactic(auto)]
+
 mod choice;
 mod fraction;
 mod refusal;

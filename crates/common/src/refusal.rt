@@ -1,11 +1,12 @@
 // Why a call is refused. A refused call leaves everything as it was.
-ghost use Rattle.std.specs.Prelude.{◌≡◌, Decides};
+ghost use Rattle.std.specs.Prelude.{◌≡◌};
 ghost use Rattle.common.specs.Refusals.{number};
-ghost use Rattle.std.specs.Cmp.Rules.{comparing};
-ghost use Rattle.std.proofs.Common.{rules};
+
+use std::error::Error;
+use std::fmt;
 
 // Where several fit a call, the smallest number is answered.
-#[derive(Clone, Copy)]
+#[derive(Clone, Copy, PartialEq, Eq, Debug)]
 pub enum Refusal {
     // No task has the number; of a call that changes a book, the number is above 15.
     UnknownTask,
@@ -45,12 +46,20 @@ impl Refusal {
     }
 }
 
-impl PartialEq for Refusal {
-    ghost equals = { λ x y r. Decides r (x ≡ y) };
-
-    ghost laws = { Prim.search (comparing, rules) };
-
-    fn eq(&self, other: &Refusal) -> bool {
-        self.number() == other.number()
+impl fmt::Display for Refusal {
+    fn fmt<W: fmt::Write>(&self, f: &mut fmt::Formatter<W>) -> fmt::Result {
+        f.write_str(match self {
+            Refusal::UnknownTask => "no task has the number",
+            Refusal::SheetFull => "sixteen tasks are there",
+            Refusal::Durations => "durations must keep 1 <= min <= max <= 65535",
+            Refusal::Circle => "the link would close a circle",
+            Refusal::NoLink => "there is no such direct link",
+            Refusal::DeadlineRange => "a deadline must keep 1 <= deadline <= 1048575",
+            Refusal::OtherKind => "a soft task can't be marked hard, nor a hard one soft",
+            Refusal::BookRule => "the ramp, the step or the weight breaks its rule",
+            Refusal::StepsFull => "six steps are there",
+        })
     }
 }
+
+impl Error for Refusal {}

@@ -1,14 +1,11 @@
 // A set of task numbers as a bit mask: bit t is set where t is a member.
-ghost use Rattle.std.specs.Prelude.{◌≡◌, ℕ, false, not, ◌&&◌, ◌||◌, ltb, if◌then◌else◌, Decides, MatchOption, ◌==◌, count_ones, nat_eq, nat_lt};
-ghost use Rattle.std.specs.Ordering.{on};
+ghost use Rattle.std.specs.Prelude.{◌≡◌, false, not, ◌&&◌, ◌||◌, ℕ, nat_lt, MatchOption, count_ones, if◌then◌else◌, ◌==◌};
 ghost use Rattle.common.specs.Sets.{has, adding, removing, Lowest};
-ghost use Rattle.std.specs.Cmp.Rules.{comparing};
-ghost use Rattle.std.proofs.Common.{rules};
 
 // A task number is below this.
 pub const MOST: u8 = 16;
 
-#[derive(Clone, Copy)]
+#[derive(Clone, Copy, PartialEq, Eq)]
 pub struct TaskSet(u16);
 
 impl TaskSet {
@@ -22,7 +19,7 @@ impl TaskSet {
 
     // A number above 15 is left out.
     pub fn with(self, t: u8) -> TaskSet
-        ensures value { result.0 ≡ (if ltb t 16 then adding self.0 t else self.0) }
+        ensures value { result.0 ≡ (if nat_lt t 16 then adding self.0 t else self.0) }
         ensures members { (u : ℕ) → has result.0 u ≡ (has self.0 u || (nat_lt t 16 && u == t)) }
     {
         if t >= MOST {
@@ -55,15 +52,5 @@ impl TaskSet {
             return None;
         }
         Some(self.0.trailing_zeros() as u8)
-    }
-}
-
-impl PartialEq for TaskSet {
-    ghost eq = { on (λ v. v.0) nat_eq };
-
-    ghost laws = { Prim.search (comparing, rules) };
-
-    fn eq(&self, other: &TaskSet) -> bool {
-        self.0 == other.0
     }
 }

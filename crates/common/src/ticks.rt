@@ -1,6 +1,6 @@
 // Ticks of one microsecond. Expected ticks and maximum ticks are two types, and neither converts into the other: a worth is
 // looked up at expected ticks only, a deadline is held against maximum ticks only.
-ghost use Rattle.std.specs.Prelude.{◌≡◌, ◌+◌, ◌-◌, ◌^◌, min, pos, ◌-ℤ◌, int_lt, nat_le};
+ghost use Rattle.std.specs.Prelude.{◌≡◌, ◌+◌, ◌-◌, ◌^◌, min, nat_le, pos, ◌-ℤ◌, int_lt};
 ghost use Rattle.std.proofs.Common.{rules};
 
 use crate::choice::Rank;
@@ -53,9 +53,7 @@ impl Maximum {
 impl Rank for Margin {
     ghost beats = { λ x y. int_lt x.0 y.0 };
 
-    ghost one_way = { Prim.search rules };
-
-    ghost chain = { Prim.search rules };
+    ghost ordered = { Prim.search rules };
 
     fn better(&self, other: &Margin) -> bool {
         self.0 < other.0

@@ -1,26 +1,26 @@
 -- The tests of the worked list decide what the sheet's definitions say. Assumes nothing.
-use Rattle.std.proofs.Common.{◌≡◌, ℕ, ◌*◌, ◌<◌, Bool, true, false, not, ◌&&◌, ltb, leb, pos, ◌≤ℤ◌, ◌<ℤ◌, Some, None, Option, sym, refl, ap, ◌∙◌, subst, subst₂, ⊎_elim, arith}
+use Rattle.std.proofs.Common.{◌≡◌, refl, sym, ap, subst, subst₂, ◌∙◌, Bool, true, false, not, ◌&&◌, ⊎_elim, ℕ, ◌*◌, ◌<◌, arith, leb, ltb, pos, ◌≤ℤ◌, ◌<ℤ◌, true≢false, Option, Some, None}
+use Rattle.std.proofs.lemmas.Bool.{both_ways, cases_Bool, cases_lt, and_parts, and_from, not-true, not-false, not_from_false, false≢true}
+use Rattle.std.proofs.lemmas.Grind.{common_steps}
 use Rattle.std.proofs.lemmas.Int.{ints}
-use Rattle.std.proofs.lemmas.Bool.{both_ways, cases_Bool, cases_lt, and_parts, and_from, not-true, not-false, not_from_false, false≢true, true≢false}
-use Rattle.std.proofs.lemmas.Bool.Decides.{nat_tests}
+use Rattle.book.proofs.Efforts.{effort-pos, not-soft}
+use Rattle.book.specs.Keenest.{Keenest, effort, soft}
+use Rattle.book.specs.Worths.{Meaning}
 use Rattle.common.proofs.Sets.{any-true, any-from}
 use Rattle.common.specs.Sets.{any}
 use Rattle.common.specs.declared.ticks.Margin.{Margin}
+use Rattle.known.specs.Worked.{Tests, all_met, is_absent, is_keenest, is_tightest, none_hard, none_soft, smaller}
 use Rattle.sheet.proofs.Margins.{no-margin}
 use Rattle.sheet.proofs.Rules.{Sound}
 use Rattle.sheet.specs.Margins.{margin_of, Fits, Tightest}
 use Rattle.sheet.specs.declared.table.Table.{Table}
-use Rattle.book.proofs.Efforts.{effort-pos, not-soft}
-use Rattle.book.specs.Keenest.{Keenest, effort, soft}
-use Rattle.book.specs.Worths.{Meaning}
-use Rattle.known.specs.Worked.{Tests, all_met, is_absent, is_keenest, is_tightest, none_hard, none_soft, smaller}
 
 -- no number below n passes
-any_none : (n : ℕ) (p : ℕ → Bool) → not (any n p) ≡ true → (k : ℕ) → k < n → p k ≡ false
-any_none n p e k lt = ⊎_elim (λ h. absurd (both_ways _ (not-true _ e) (any-true n p k lt h))) (λ h. h) (cases_Bool (p k))
+any-none : (n : ℕ) (p : ℕ → Bool) → not (any n p) ≡ true → (k : ℕ) → k < n → p k ≡ false
+any-none n p e k lt = ⊎_elim (λ h. absurd (both_ways _ (not-true _ e) (any-true n p k lt h))) (λ h. h) (cases_Bool (p k))
 
-none_any : (n : ℕ) (p : ℕ → Bool) → ((k : ℕ) → k < n → p k ≡ true → ⊥) → not (any n p) ≡ true
-none_any n p off = not_from_false _ (⊎_elim (λ h. let f = any-from n p h in absurd (off f.0 f.1 f.2)) (λ h. h) (cases_Bool (any n p)))
+none-any : (n : ℕ) (p : ℕ → Bool) → ((k : ℕ) → k < n → p k ≡ true → ⊥) → not (any n p) ≡ true
+none-any n p off = not_from_false _ (⊎_elim (λ h. let f = any-from n p h in absurd (off f.0 f.1 f.2)) (λ h. h) (cases_Bool (any n p)))
 
 some-not-none : (m : Margin) → Some m ≡ None → ⊥
 some-not-none m e = let z : ◌≡◌ {A = ℕ} 0 1 = cc in omega arith
@@ -29,9 +29,9 @@ present : (o : Option Margin) → not (is_absent o) ≡ true → (m : Margin) ×
 present (Some m) e = (m, refl)
 present None e = absurd (false≢true e)
 
-is_none : (o : Option Margin) → not (is_absent o) ≡ false → o ≡ None
-is_none (Some m) e = absurd (true≢false e)
-is_none None e = refl
+is-none : (o : Option Margin) → not (is_absent o) ≡ false → o ≡ None
+is-none (Some m) e = absurd (true≢false e)
+is-none None e = refl
 
 less : (m n : Margin) → smaller (Some m) (Some n) ≡ true → m.0 <ℤ n.0
 less m n e = grind (arith, ints)
@@ -60,10 +60,10 @@ module _ (t : Table) (r : Sound t) where
   zero-margin = record { 0 = pos 0 }
 
   fits-to : all_met t ≡ true → Fits t
-  fits-to e k m h = not-less m (record { 0 = pos 0 }) (ap (λ o. smaller o (Some (record { 0 = pos 0 }))) (sym h) ∙ any_none t.len (λ u. smaller (margin_of t u) (Some (record { 0 = pos 0 }))) e k (within k m h))
+  fits-to e k m h = not-less m (record { 0 = pos 0 }) (ap (λ o. smaller o (Some (record { 0 = pos 0 }))) (sym h) ∙ any-none t.len (λ u. smaller (margin_of t u) (Some (record { 0 = pos 0 }))) e k (within k m h))
 
   fits-from : Fits t → all_met t ≡ true
-  fits-from f = none_any t.len (λ u. smaller (margin_of t u) (Some (record { 0 = pos 0 }))) (λ k lt h. let s = smaller-some (margin_of t k) (record { 0 = pos 0 }) h in clash s.0 (record { 0 = pos 0 }) s.2 (f k s.0 s.1))
+  fits-from f = none-any t.len (λ u. smaller (margin_of t u) (Some (record { 0 = pos 0 }))) (λ k lt h. let s = smaller-some (margin_of t k) (record { 0 = pos 0 }) h in clash s.0 (record { 0 = pos 0 }) s.2 (f k s.0 s.1))
 
   tightest-to : (k : ℕ) → is_tightest t k ≡ true → Tightest t k
   tightest-to k e =
@@ -73,21 +73,21 @@ module _ (t : Table) (r : Sound t) where
       record {
         margin = m.0;
         has_it = m.1;
-        least = λ u n h. not-less n m.0 (subst₂ (λ x y. smaller x y ≡ false) h m.1 (any_none t.len (λ v. smaller (margin_of t v) (margin_of t k)) b.0 u (within u n h)));
-        lowest = λ u n lt h. less m.0 n (subst₂ (λ x y. smaller x y ≡ true) m.1 h (not-false _ (any_none k (λ v. not (smaller (margin_of t k) (margin_of t v))) b.1 u lt)));
+        least = λ u n h. not-less n m.0 (subst₂ (λ x y. smaller x y ≡ false) h m.1 (any-none t.len (λ v. smaller (margin_of t v) (margin_of t k)) b.0 u (within u n h)));
+        lowest = λ u n lt h. less m.0 n (subst₂ (λ x y. smaller x y ≡ true) m.1 h (not-false _ (any-none k (λ v. not (smaller (margin_of t k) (margin_of t v))) b.1 u lt)));
       }
 
   tightest-from : (k : ℕ) → Tightest t k → is_tightest t k ≡ true
   tightest-from k p =
       and_from _ _ (ap (λ o. not (is_absent o)) p.has_it) (and_from _ _
-      (none_any t.len (λ v. smaller (margin_of t v) (margin_of t k)) (λ u lt h. let s = smaller-some (margin_of t u) p.margin (subst (λ o. smaller (margin_of t u) o ≡ true) p.has_it h) in clash s.0 p.margin s.2 (p.least u s.0 s.1)))
-      (none_any k (λ v. not (smaller (margin_of t k) (margin_of t v))) (λ u lt h. let s = not-smaller p.margin (margin_of t u) (subst (λ o. not (smaller o (margin_of t u)) ≡ true) p.has_it h) in clash p.margin s.0 (p.lowest u s.0 lt s.1) s.2)))
+      (none-any t.len (λ v. smaller (margin_of t v) (margin_of t k)) (λ u lt h. let s = smaller-some (margin_of t u) p.margin (subst (λ o. smaller (margin_of t u) o ≡ true) p.has_it h) in clash s.0 p.margin s.2 (p.least u s.0 s.1)))
+      (none-any k (λ v. not (smaller (margin_of t k) (margin_of t v))) (λ u lt h. let s = not-smaller p.margin (margin_of t u) (subst (λ o. not (smaller o (margin_of t u)) ≡ true) p.has_it h) in clash p.margin s.0 (p.lowest u s.0 lt s.1) s.2)))
 
   none-to : none_hard t ≡ true → (k : ℕ) → margin_of t k ≡ None
-  none-to e k = ⊎_elim (λ lt. is_none _ (any_none t.len (λ v. not (is_absent (margin_of t v))) e k lt)) (no-margin t r k) (cases_lt k t.len)
+  none-to e k = ⊎_elim (λ lt. is-none _ (any-none t.len (λ v. not (is_absent (margin_of t v))) e k lt)) (no-margin t r k) (cases_lt k t.len)
 
-  none_from : ((k : ℕ) → margin_of t k ≡ None) → none_hard t ≡ true
-  none_from f = none_any t.len (λ v. not (is_absent (margin_of t v))) (λ k lt h. let m = present (margin_of t k) h in some-not-none m.0 (sym m.1 ∙ f k))
+  none-from : ((k : ℕ) → margin_of t k ≡ None) → none_hard t ≡ true
+  none-from f = none-any t.len (λ v. not (is_absent (margin_of t v))) (λ k lt h. let m = present (margin_of t k) h in some-not-none m.0 (sym m.1 ∙ f k))
 
   -- ---- soft tasks
 
@@ -109,29 +109,29 @@ module _ (t : Table) (r : Sound t) where
         record {
           is_soft = a.0;
           some = λ u s. effort-pos t r u (soft-within u s);
-          best = λ u s. let h = any_none t.len keener b.0 u (soft-within u s) in grind (arith, nat_tests);
-          lowest = λ u lt s. let h = any_none k as-keen b.1 u lt in grind (arith, nat_tests);
+          best = λ u s. let h = any-none t.len keener b.0 u (soft-within u s) in grind (arith, common_steps);
+          lowest = λ u lt s. let h = any-none k as-keen b.1 u lt in grind (arith, common_steps);
         }
 
     keenest-from : Keenest m t k → is_keenest m t k ≡ true
     unfolding keener as-keen
     keenest-from p =
         and_from _ _ p.is_soft (and_from _ _
-        (none_any t.len keener (λ u lt h. let s = and_parts _ _ h in let b = p.best u s.0 in absurd (grind (arith, nat_tests))))
-        (none_any k as-keen (λ u lt h. let s = and_parts _ _ h in let b = p.lowest u lt s.0 in absurd (grind (arith, nat_tests)))))
+        (none-any t.len keener (λ u lt h. let s = and_parts _ _ h in let b = p.best u s.0 in absurd (grind (arith, common_steps))))
+        (none-any k as-keen (λ u lt h. let s = and_parts _ _ h in let b = p.lowest u lt s.0 in absurd (grind (arith, common_steps)))))
 
   unsoft-to : none_soft t ≡ true → (k : ℕ) → soft t k ≡ false
-  unsoft-to e k = ⊎_elim (λ lt. any_none t.len (soft t) e k lt) (not-soft t r k) (cases_lt k t.len)
+  unsoft-to e k = ⊎_elim (λ lt. any-none t.len (soft t) e k lt) (not-soft t r k) (cases_lt k t.len)
 
   unsoft-from : ((k : ℕ) → soft t k ≡ false) → none_soft t ≡ true
-  unsoft-from f = none_any t.len (soft t) (λ k lt h. both_ways _ (f k) h)
+  unsoft-from f = none-any t.len (soft t) (λ k lt h. both_ways _ (f k) h)
 
   pub tests-stand : Tests t
   tests-stand =
       record {
         fits = (fits-to, fits-from);
         tightest = λ k. (tightest-to k, tightest-from k);
-        none = (none-to, none_from);
+        none = (none-to, none-from);
         keenest = λ m k. (keenest-to m k, keenest-from m k);
         unsoft = (unsoft-to, unsoft-from);
       }

@@ -4,25 +4,25 @@
 --     next t d           the table after it, also where a call is refused
 --     next_book b d      the contents of the book after it
 --     all_right t b ss   each of the steps ss has its answer, one after another from t and b
-use Rattle.std.specs.Prelude.{◌≡◌, ℕ, ◌*◌, Bool, true, false, cond, not, ◌&&◌, List, [], ◌∷◌, ℤ, pos, Some, None, Decides, Option, ◌==◌, int_le, int_lt, nat_eq, nat_le, nat_lt}
-use Rattle.sheet.specs.Calls as sheet
+use Rattle.std.specs.Prelude.{Bool, true, false, not, ◌&&◌, ◌≡◌, List, [], ◌∷◌, ℕ, ◌*◌, nat_le, nat_lt, ℤ, pos, int_le, int_lt, IsTrue, ◌↔◌, Option, Some, None, if◌then◌else◌, ◌==◌}
+use Rattle.book.specs.Keenest.{Keenest as BookKeenest, effort, soft}
+use Rattle.book.specs.Standard.{Contents, nothing, ramp, step, drop_steps, weight, worth_of}
+use Rattle.book.specs.Worths.{Meaning}
+use Rattle.common.specs.Ranks.{or_absent}
+use Rattle.common.specs.Sets.{any}
+use Rattle.common.specs.declared.ticks.Margin.{Margin}
+use Rattle.known.specs.declared.step.Step.{Step}
+use Rattle.known.specs.declared.step.Step.TheVariants.{New, Task, Time, Link, Cut, Hard, Soft, Plain, Ramp, AddStep, DropSteps, Weight, Linked, Expected, Above, Margin as MarginIs, NoMargin, Fits, Tightest, NoTightest, Worth, Keenest, NoKeenest}
 use Rattle.sheet.specs.Calls.{task, time, link, cut, hard, plain}
 use Rattle.sheet.specs.Links.{linked, up}
 use Rattle.sheet.specs.Margins.{margin_of, Fits as SheetFits, Tightest as SheetTightest}
-use Rattle.common.specs.Ranks.{or_absent}
-use Rattle.common.specs.Sets.{any}
 use Rattle.sheet.specs.Tables.{empty, task_of, expected_of}
 use Rattle.sheet.specs.declared.table.Table.{Table}
-use Rattle.common.specs.declared.ticks.Margin.{Margin}
-use Rattle.book.specs.Keenest.{Keenest as BookKeenest, effort, soft}
+use Rattle.sheet.specs.Calls as sheet
 use Rattle.book.specs.Standard as book
-use Rattle.book.specs.Standard.{Contents, nothing, ramp, step, drop_steps, weight, worth_of}
-use Rattle.book.specs.Worths.{Meaning}
-use Rattle.known.specs.declared.step.Step.{Step}
-use Rattle.known.specs.declared.step.Step.TheVariants.{New, Task, Time, Link, Cut, Hard, Soft, Plain, Ramp, AddStep, DropSteps, Weight, Linked, Expected, Above, Margin as MarginIs, NoMargin, Fits, Tightest, NoTightest, Worth, Keenest, NoKeenest}
 
 abbrev pub same : Bool → Bool → Bool
-same x y = cond x y (not y)
+same x y = if x then y else not y
 
 abbrev pub is_left : Option Margin → ℤ → Bool
 is_left None z = false
@@ -58,11 +58,11 @@ none_soft t = not (any t.len (soft t))
 
 -- these tests, which compute, find exactly what the definitions say
 pub record Tests (t : Table) : Type 0 where
-  pub fits : Decides (all_met t) (SheetFits t)
-  pub tightest : (k : ℕ) → Decides (is_tightest t k) (SheetTightest t k)
-  pub none : Decides (none_hard t) ((k : ℕ) → margin_of t k ≡ None)
-  pub keenest : (m : Meaning) (k : ℕ) → Decides (is_keenest m t k) (BookKeenest m t k)
-  pub unsoft : Decides (none_soft t) ((k : ℕ) → soft t k ≡ false)
+  pub fits : IsTrue (all_met t) ↔ SheetFits t
+  pub tightest : (k : ℕ) → IsTrue (is_tightest t k) ↔ SheetTightest t k
+  pub none : IsTrue (none_hard t) ↔ ((k : ℕ) → margin_of t k ≡ None)
+  pub keenest : (m : Meaning) (k : ℕ) → IsTrue (is_keenest m t k) ↔ BookKeenest m t k
+  pub unsoft : IsTrue (none_soft t) ↔ ((k : ℕ) → soft t k ≡ false)
 
 pub data Doing : Type 0 where
   anew : Doing
@@ -84,14 +84,14 @@ does (AddStep k until worth says) = sets (step k until worth) says
 does (DropSteps k says) = sets (drop_steps k) says
 does (Weight k w says) = sets (weight k w) says
 does (Linked a b yes') = asks (λ t _. same (linked t a b) yes')
-does (Expected k ticks) = asks (λ t _. nat_eq (expected_of (task_of t k)) ticks)
+does (Expected k ticks) = asks (λ t _. expected_of (task_of t k) == ticks)
 does (Above k u yes') = asks (λ t _. same (up t u k) yes')
 does (MarginIs k left) = asks (λ t _. is_left (margin_of t k) left)
 does (NoMargin k) = asks (λ t _. is_absent (margin_of t k))
 does (Fits yes') = asks (λ t _. same (all_met t) yes')
 does (Tightest k) = asks (λ t _. is_tightest t k)
 does NoTightest = asks (λ t _. none_hard t)
-does (Worth k at worth) = asks (λ _ b. nat_eq (worth_of b k at) worth)
+does (Worth k at worth) = asks (λ _ b. worth_of b k at == worth)
 does (Keenest k) = asks (λ t b. is_keenest (worth_of b) t k)
 does NoKeenest = asks (λ t _. none_soft t)
 

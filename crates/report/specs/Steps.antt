@@ -1,12 +1,12 @@
 -- The call that a step of the week makes, what it answers and what it leaves. Assumes nothing.
-use Rattle.std.specs.Prelude.{ℕ, Some, None, Option}
-use Rattle.book.specs.Standard as book
+use Rattle.std.specs.Prelude.{ℕ, Option, Some, None}
 use Rattle.book.specs.Standard.{Contents, ramp, step, weight}
-use Rattle.sheet.specs.Calls as sheet
-use Rattle.sheet.specs.Calls.{task, link, cut, hard, soft}
-use Rattle.sheet.specs.declared.table.Table.{Table}
 use Rattle.report.specs.declared.week.Step.{Step}
 use Rattle.report.specs.declared.week.Step.TheVariants.{Task, Link, Cut, Hard, Soft, Ramp, AddStep, Weight}
+use Rattle.sheet.specs.Calls.{task, link, cut, hard, soft}
+use Rattle.sheet.specs.declared.table.Table.{Table}
+use Rattle.book.specs.Standard as book
+use Rattle.sheet.specs.Calls as sheet
 
 pub data Doing : Type 0 where
   on_sheet : sheet.Call → Doing

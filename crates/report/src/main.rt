@@ -1,19 +1,19 @@
 // Makes a sheet and its worth book as two groups do in a week, and prints each call's answer, each task with its margin, its
 // earliest end and what it is worth then, whether the sheet fits, and which tasks are the tightest and the keenest.
+#![tactic(auto)]
+
 ghost use Rattle.std.specs.Prelude.{◌≡◌, IfOk};
-ghost use Rattle.report.specs.Steps.{book_after, call_of, number_of, sheet_after, verdict};
 ghost use Rattle.book.specs.Standard.{contents};
 ghost use Rattle.common.specs.Refusals.{outcome};
+ghost use Rattle.report.specs.Steps.{book_after, call_of, number_of, sheet_after, verdict};
 
 use book::{Book, StandardBook, keenest};
 use common::{Expected, MOST, Margin, Refusal, TaskSet};
 use sheet::{Kind, Sheet, Task};
 use std::io;
 use week::{BUS_GROUP, NAMES, RF_GROUP, Step};
-use words::{kind_word, reason};
 
 mod week;
-mod words;
 
 // Makes the step's call. A new task answers its number.
 fn call(sheet: &mut Sheet, book: &mut StandardBook, step: Step) -> Result<Option<u8>, Refusal>
@@ -45,26 +45,16 @@ fn print_calls(
     println!(rt; "{group}")?;
     for step in steps {
         match call(sheet, book, *step) {
-            Ok(Some(t)) => {
-                let name = name(t);
-                println!(rt; "  {step}: {t}, {name}")?
-            }
+            Ok(Some(t)) => println!(rt; "  {step}: {t}, {}", name(t))?,
             Ok(None) => println!(rt; "  {step}: accepted")?,
-            Err(refusal) => {
-                let number = refusal.number();
-                let why = reason(refusal);
-                println!(rt; "  {step}: refused with {number}, {why}")?
-            }
+            Err(refusal) => println!(rt; "  {step}: refused with {}, {refusal}", refusal.number())?,
         }
     }
     Ok(())
 }
 
 fn name(t: u8) -> &'static str {
-    match NAMES.get(t as usize) {
-        Some(name) => name,
-        None => "unnamed",
-    }
+    NAMES.get(t as usize).copied().unwrap_or("unnamed")
 }
 
 // A number in a column, or a dash where it is absent.
@@ -89,21 +79,26 @@ fn print_task(rt: &impl Print, sheet: &Sheet, book: &StandardBook, t: u8) -> io:
         return Ok(());
     };
     let earliest = sheet.load(above).expected;
-    let name = name(t);
-    let expected = task.expected().0;
-    let Task {
-        min,
-        max,
-        kind,
-        before,
-    } = task;
-    let word = kind_word(kind);
-    print!(rt; "{t:>4}  {name:<15} {min:>5} {max:>5} {expected:>8}  {word:<5}")?;
+    let Task { min, max, kind, .. } = task;
+    print!(rt;
+        "{t:>4}  {:<15} {min:>5} {max:>5} {:>8}  {:<5}",
+        name(t),
+        task.expected().0,
+        kind_word(kind)
+    )?;
     print_number(rt, deadline(kind))?;
     print_number(rt, left(margin))?;
     print_number(rt, Some(earliest.0 as i64))?;
     print_number(rt, worth(book, t, kind, earliest))?;
-    print_set(rt, before)
+    print_set(rt, task.before)
+}
+
+fn kind_word(kind: Kind) -> &'static str {
+    match kind {
+        Kind::Plain => "plain",
+        Kind::Soft => "soft",
+        Kind::Hard(_) => "hard",
+    }
 }
 
 fn deadline(kind: Kind) -> Option<i64> {
@@ -132,8 +127,7 @@ fn print_choice(rt: &impl Print, what: &str, choice: Option<u8>) -> io::Result<(
     let Some(t) = choice else {
         return println!(rt; "{what}: none");
     };
-    let name = name(t);
-    println!(rt; "{what}: {t}, {name}")
+    println!(rt; "{what}: {t}, {}", name(t))
 }
 
 fn print_sheet(rt: &impl Print, sheet: &Sheet, book: &StandardBook) -> io::Result<()> {
@@ -143,8 +137,7 @@ fn print_sheet(rt: &impl Print, sheet: &Sheet, book: &StandardBook) -> io::Resul
     for t in 0..sheet.count() {
         print_task(rt, sheet, book, t)?;
     }
-    let fits = if sheet.fits() { "yes" } else { "no" };
-    println!(rt; "Fits: {fits}")?;
+    println!(rt; "Fits: {}", if sheet.fits() { "yes" } else { "no" })?;
     print_choice(rt, "Tightest", sheet.tightest())?;
     print_choice(rt, "Keenest", keenest(sheet, book))
 }

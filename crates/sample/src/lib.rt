@@ -1,8 +1,9 @@
 // A kind of book of another crate, to show what a new kind needs: its meaning, the laws of the trait, and the answer.
+#![tactic(auto)]
+
 ghost use Rattle.std.specs.Prelude.{◌≡◌, ◌≤◌, min};
 ghost use Rattle.book.specs.Worths.{added, top};
-ghost use Rattle.sample.specs.Flat.{flat};
-ghost use Rattle.std.proofs.Common.{rules, arith};
+ghost use Rattle.sample.specs.Flat.{flat, flat-sound};
 
 use book::{Book, Sum, TOP};
 use common::{Expected, MOST};
@@ -34,11 +35,7 @@ impl FlatBook {
 impl Book for FlatBook {
     ghost meaning = { λ x. flat x.worth x.until };
 
-    ghost bounded = { first_of (Prim.search rules, Prim.grind (arith, Self.row.coded.inj)) };
-
-    ghost falls = { first_of (Prim.search rules, Prim.grind (arith, Self.row.coded.inj)) };
-
-    ghost bare = { first_of (Prim.search rules, Prim.grind (arith, Self.row.coded.inj)) };
+    ghost sound = { λ x. flat-sound x.worth x.until x.low };
 
     fn worth(&self, task: u8, at: Expected) -> u32 {
         if task < MOST && at.0 <= self.until {
@@ -51,7 +48,7 @@ impl Book for FlatBook {
 
 // Beside a book of any other kind, it is asked like any book.
 pub fn beside<B: Book + Copy>(book: FlatBook, other: &B, task: u8, at: Expected) -> u32
-    ensures { result ≡ added (flat book.worth book.until) (meaning other.now) task at.0 }
+    ensures { result ≡ added (flat book.worth book.until) (B.meaning other.now) task at.0 }
 {
     let sum = Sum {
         first: book,

@@ -1,55 +1,23 @@
--- What a call leaves, and that each call that is accepted keeps the rules. Assumes nothing.
-use Rattle.std.proofs.Common.{◌≡◌, ℕ, ◌+◌, ◌<◌, ◌≤◌, Bool, true, false, cond, not, eqb, ◌⊎◌, IsErrAnd, Result, sym, refl, ◌∙◌, subst, inl, inr, ⊎_elim, arith}
-use Rattle.std.proofs.lemmas.Bool.{both_ways, or_cases, and_parts, eqb-true}
-use Rattle.std.proofs.lemmas.Bool.Decides.{nat_tests, not_from_Decides}
-use Rattle.common.specs.Sets.{has, adding, removing}
-use Rattle.sheet.specs.Tables.{put, task_of}
-use Rattle.sheet.specs.Links.{linked, up}
-use Rattle.sheet.specs.Rules.{InRange}
-use Rattle.common.specs.Refusals.{number, outcome}
-use Rattle.sheet.specs.Calls.{Call, Called, task, time, link, cut, hard, soft, plain, verdict, changed, after, new_task, with_durations, with_before, with_kind}
-use Rattle.sheet.specs.declared.table.Kind.{Kind}
-use Rattle.sheet.specs.declared.table.Kind.TheVariants.{Plain, Soft, Hard}
-use Rattle.sheet.specs.declared.table.Task.{Task}
-use Rattle.sheet.specs.declared.table.Table.{Table}
-use Rattle.common.specs.declared.refusal.Refusal.{Refusal}
-use Rattle.sheet.specs.declared.sheet.Sheet.{Sheet}
-use Rattle.common.proofs.Refusals as refusals
-use Rattle.common.proofs.Refusals.{kept-accepted, kept-refused, kept-cases}
+-- Each call that is accepted keeps the rules. Assumes nothing.
+use Rattle.std.proofs.Common.{◌≡◌, refl, sym, subst, ◌∙◌, true, false, not, inl, inr, ⊎_elim, ℕ, ◌+◌, ◌≤◌, ◌<◌, arith, eqb, eqb-true}
+use Rattle.std.proofs.lemmas.Bool.{both_ways, or_cases, and_parts}
+use Rattle.std.proofs.lemmas.Bool.Decides.{not_from_Decides}
+use Rattle.std.proofs.lemmas.Grind.{common_steps}
 use Rattle.common.proofs.Sets.{has-none, has-adding, has-removing}
-use Rattle.sheet.proofs.Fitting.{fitting}
+use Rattle.common.specs.Sets.{has, adding, removing}
 use Rattle.sheet.proofs.Paths.{up-decides, still-acyclic}
 use Rattle.sheet.proofs.Rules.{Sound, RowOk, Fields, plain-not-hard, fields, sound-of, link-of, sound-written, sound-unlinked}
+use Rattle.sheet.specs.Calls.{Call, task, time, link, cut, hard, soft, plain, verdict, changed, new_task, with_durations, with_before, with_kind}
+use Rattle.sheet.specs.Links.{linked, up}
+use Rattle.sheet.specs.Rules.{InRange}
+use Rattle.sheet.specs.Tables.{put, task_of}
+use Rattle.sheet.specs.declared.sheet.Sheet.{Sheet}
+use Rattle.sheet.specs.declared.table.Kind.{Kind}
+use Rattle.sheet.specs.declared.table.Kind.TheVariants.{Plain, Soft, Hard}
+use Rattle.sheet.specs.declared.table.Table.{Table}
+use Rattle.sheet.specs.declared.table.Task.{Task}
 
-pub accepted : (t : Table) (c : Call) (t' : Table) → t' ≡ changed t c → verdict t c ≡ 0 → t' ≡ after t c
-unfolding after
-accepted t c t' e v = e ∙ kept-accepted (verdict t c) (changed t c) t v
-
-refused : (t : Table) (c : Call) → 0 < verdict t c → t ≡ after t c
-unfolding after
-refused t c v = kept-refused (verdict t c) (changed t c) t v
-
--- what is left by a call that is accepted, and by one that is refused
-pub after-cases : (P : Table → Type 0) (t : Table) (c : Call) → (verdict t c ≡ 0 → P (changed t c)) → (0 < verdict t c → P t) → P (after t c)
-unfolding after
-after-cases P t c left kept = kept-cases (verdict t c) (changed t c) t P left kept
-
--- what a call promises that is accepted, and one that is refused
-pub called-accepted : (t : Table) (c : Call) (t' : Table) → t' ≡ changed t c → verdict t c ≡ 0 → Called t t' c 0
-called-accepted t c t' e v = record { says = sym v; smallest = fitting t c 0 (sym v); leaves = accepted t c t' e v }
-
-pub called-refused : (t : Table) (c : Call) (n : ℕ) → verdict t c ≡ n → 0 < n → Called t t c n
-called-refused t c n v pos = record { says = sym v; smallest = fitting t c n (sym v); leaves = refused t c (omega arith) }
-
--- the exit of a `?`: the call answers the refusal e that it was handed, by a test b of its own verdict, and leaves the table
-pub turned_down : {A : Type 0} (t : Table) (c : Call) (b : Bool) (n : ℕ) (r : Result A Refusal) (e : Refusal) → (b ≡ true → verdict t c ≡ n) → IsErrAnd r (λ y. y ≡ e)
-    → number e ≡ cond b n 0 → Called t t c (outcome r)
-unfolding after
-turned_down t c b n r e v h s =
-    let p = refusals.turned_down (verdict t c) (changed t c) t b n r e v h s in
-    record { says = p.0; smallest = fitting t c (outcome r) p.0; leaves = p.1 }
-
-pub linked-is : (t : Table) (a b : ℕ) → has (task_of t b).before.0 a ≡ linked t a b
+pub linked-is : (t : Table) (a b : ℕ) → has ((task_of t b).before.0) a ≡ linked t a b
 unfolding linked
 linked-is t a b = refl
 
@@ -72,17 +40,17 @@ module _ (t : Table) (r : Sound t) (k : ℕ) (lt : k < t.len) where
 
 pub keeps : (t : Table) (c : Call) → Sound t → verdict t c ≡ 0 → Sound (changed t c)
 keeps t (task min max) r v =
-    let few : t.len < 16 = grind (arith, nat_tests) in
+    let few : t.len < 16 = grind (arith, common_steps) in
     sound-unlinked t r (t.len + 1) t.len (new_task min max) (omega arith) (omega arith) (omega arith) (λ k h ne. omega arith)
-    (record { lasting = (grind (arith, nat_tests), grind (arith, nat_tests), grind (arith, nat_tests)); due = λ d e. absurd (plain-not-hard d e) })
+    (record { lasting = (grind (arith, common_steps), grind (arith, common_steps), grind (arith, common_steps)); due = λ d e. absurd (plain-not-hard d e) })
     (λ u e. absurd (both_ways _ (has-none u) e))
 keeps t (time k min max) r v =
-    let lt : k < t.len = grind (arith, nat_tests) in
-    rewritten t r k lt (with_durations min max (task_of t k)) (record { lasting = (grind (arith, nat_tests), grind (arith, nat_tests), grind (arith, nat_tests)); due = r.due k }) refl
+    let lt : k < t.len = grind (arith, common_steps) in
+    rewritten t r k lt (with_durations min max (task_of t k)) (record { lasting = (grind (arith, common_steps), grind (arith, common_steps), grind (arith, common_steps)); due = r.due k }) refl
 keeps t (link a b) r v =
-    let la : a < t.len = grind (arith, nat_tests) in
-    let lb : b < t.len = grind (arith, nat_tests) in
-    let off : up t b a ≡ false = grind (arith, nat_tests) in
+    let la : a < t.len = grind (arith, common_steps) in
+    let lb : b < t.len = grind (arith, common_steps) in
+    let off : up t b a ≡ false = grind (arith, common_steps) in
     let s = (task_of t b).before.0 in
     let x = with_before (adding s a) (task_of t b) in
     sound-written t r t.len b x (omega arith) r.few lb (λ j h ne. h) (record { lasting = r.lasting b lb; due = r.due b })
@@ -95,20 +63,17 @@ keeps t (link a b) r v =
     inl
     (link-of t r t.len b x (omega (arith, r.few)) u w l)) r.acyclic (not_from_Decides _ (up-decides t r.known b a) off))
 keeps t (cut a b) r v =
-    let lb : b < t.len = grind (arith, nat_tests) in
+    let lb : b < t.len = grind (arith, common_steps) in
     let s = (task_of t b).before.0 in
     sound-unlinked t r t.len b (with_before (removing s a) (task_of t b)) (omega arith) r.few lb (λ j h ne. h) (record { lasting = r.lasting b lb; due = r.due b })
     (λ u e. sym (linked-is t u b) ∙ (and_parts (has s u) (not (eqb u a)) (sym (has-removing s a u) ∙ e)).0)
 keeps t (hard k d) r v =
-    let lt : k < t.len = grind (arith, nat_tests) in
-    let low : 1 ≤ d = grind (arith, nat_tests) in
-    let high : d ≤ 1048575 = grind (arith, nat_tests) in
+    let lt : k < t.len = grind (arith, common_steps) in
+    let low : 1 ≤ d = grind (arith, common_steps) in
+    let high : d ≤ 1048575 = grind (arith, common_steps) in
     marked t r k lt (Hard d) (λ e h. let q = hard-same d e h in (omega arith, omega arith))
-keeps t (soft k) r v = marked t r k (grind (arith, nat_tests)) Soft (λ d e. absurd (soft-not-hard d e))
-keeps t (plain k) r v = marked t r k (grind (arith, nat_tests)) Plain (λ d e. absurd (plain-not-hard d e))
-
-pub after-sound : (t : Table) (c : Call) → Sound t → Sound (after t c)
-after-sound t c r = after-cases Sound t c (keeps t c r) (λ _. r)
+keeps t (soft k) r v = marked t r k (grind (arith, common_steps)) Soft (λ d e. absurd (soft-not-hard d e))
+keeps t (plain k) r v = marked t r k (grind (arith, common_steps)) Plain (λ d e. absurd (plain-not-hard d e))
 
 -- the ghost fields after a call that is accepted
 pub kept : (s : Sheet) (c : Call) (t : Table) → t ≡ changed s.table c → verdict s.table c ≡ 0 → Fields t

@@ -1,8 +1,8 @@
 pub mod Paths
 pub mod Rules
-pub mod Fitting
 pub mod Kept
 pub mod Linking
 pub mod Ancestors
 pub mod Loads
 pub mod Margins
+pub mod Equal

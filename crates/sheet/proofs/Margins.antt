@@ -1,26 +1,20 @@
 -- Demands and margins. Assumes nothing.
-use Rattle.std.proofs.Common.{◌≡◌, ℕ, ◌<◌, ◌≤◌, List, get_or, pos, ◌-ℤ◌, ◌≤ℤ◌, Some, None, Option, sym, ap, ◌∙◌, arith}
-use lib.Signed.{lt_z}
+use Rattle.std.proofs.Common.{◌≡◌, sym, ap, ◌∙◌, List, ℕ, ◌≤◌, ◌<◌, arith, pos, ◌≤ℤ◌, get_or, Option, Some, None}
 use Rattle.std.proofs.lemmas.Int.{ints}
-use Rattle.common.specs.Sets.{has}
-use Rattle.sheet.specs.Tables.{load_of, maximum_of, task_of}
-use Rattle.sheet.specs.Margins.{needed, demand, margin_for, margin_of, Tightest}
+use Rattle.std.specs.Prelude.{int_lt}
+use Rattle.common.proofs.Sets.{sum-same}
 use Rattle.common.specs.Ranks.{FirstPresent}
-use Rattle.sheet.specs.declared.table.Kind.TheVariants.{Hard}
-use Rattle.sheet.specs.declared.table.Table.{Table}
+use Rattle.common.specs.Sets.{has}
 use Rattle.common.specs.declared.ticks.Margin.{Margin}
-use Rattle.common.proofs.Sets.{sum_same}
 use Rattle.sheet.proofs.Rules.{Sound, plain-is}
+use Rattle.sheet.specs.Margins.{needed, demand, margin_for, margin_of, Tightest}
+use Rattle.sheet.specs.Tables.{load_of, maximum_of, task_of}
+use Rattle.sheet.specs.declared.table.Table.{Table}
 
 -- the load of the tasks that must have ended by d is the demand at d
-pub demand-is : (t : Table) (d s : ℕ) → ((u : ℕ) → has s u ≡ needed t d u) → load_of maximum_of t (has s) ≡ demand t d
+pub demand_is : (t : Table) (d s : ℕ) → ((u : ℕ) → has s u ≡ needed t d u) → load_of maximum_of t (has s) ≡ demand t d
 unfolding demand
-demand-is t d s e = sum_same (has s) (needed t d) (λ u. maximum_of (task_of t u)) t.len (λ k _. e k)
-
-pub margin-is : (t : Table) (d s load : ℕ) (m : Margin) → ((u : ℕ) → has s u ≡ needed t d u) → load ≡ load_of maximum_of t (has s)
-    → m.0 ≡ pos d -ℤ pos load → Some m ≡ margin_for t (Hard d)
-margin-is t d s load m e l h =
-    ap (λ z. let k : Margin = record { 0 = z } in Some k) (h ∙ ap (λ n. pos d -ℤ pos n) (l ∙ demand-is t d s e))
+demand_is t d s e = sum-same (has s) (needed t d) (λ u. maximum_of (task_of t u)) t.len (λ k _. e k)
 
 -- what the loop that lists the margins puts at k
 abbrev pub MarginIs : Table → ℕ → Option Margin → Type 0
@@ -28,14 +22,14 @@ MarginIs t k m = m ≡ margin_of t k
 
 -- a row that holds no task has no margin
 pub no-margin : (t : Table) → Sound t → (k : ℕ) → t.len ≤ k → margin_of t k ≡ None
-no-margin t r k ge = ap (margin_for t) (plain-is _ (r.clear k ge).2)
+no-margin t r k ge = ap (margin_for t) (plain-is _ ((r.clear k ge).2))
 
 -- none of the first n margins is below 0
 abbrev pub NoneBelow : List (Option Margin) → ℕ → Type 0
 NoneBelow ms n = (k : ℕ) (m : Margin) → k < n → get_or ms k None ≡ Some m → pos 0 ≤ℤ m.0
 
 -- the first best of the margins that are there
-pub tightest-is : (t : Table) (ms : List (Option Margin)) → ((k : ℕ) → get_or ms k None ≡ margin_of t k) → (k : ℕ) → FirstPresent (λ (x y : Margin). lt_z x.0 y.0) ms k → Tightest t k
+pub tightest-is : (t : Table) (ms : List (Option Margin)) → ((k : ℕ) → get_or ms k None ≡ margin_of t k) → (k : ℕ) → FirstPresent (λ (x y : Margin). int_lt x.0 y.0) ms k → Tightest t k
 tightest-is t ms lists k p =
     record {
       margin = p.rank;

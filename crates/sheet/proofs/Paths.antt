@@ -1,6 +1,6 @@
 -- `reaches` is the test of a path, and what a link more or less does to paths. Assumes nothing.
-use Rattle.std.proofs.Common.{◌≡◌, ℕ, zero, suc, ◌<◌, true, ◌&&◌, eqb, ◌⊎◌, Decides, sym, refl, subst, inl, inr, ⊎_elim, arith}
-use Rattle.std.proofs.lemmas.Bool.{or_cases, or_left, or_right, and_parts, and_from, cases_order, eqb-true, eq-eqb}
+use Rattle.std.proofs.Common.{◌≡◌, refl, sym, subst, true, ◌&&◌, ◌⊎◌, inl, inr, ⊎_elim, ℕ, zero, suc, ◌<◌, arith, eqb, Decides, eqb-true, eq-eqb}
+use Rattle.std.proofs.lemmas.Bool.{or_cases, or_left, or_right, and_parts, and_from, cases_order}
 use Rattle.sheet.specs.Links.{Path, one, more, linked, via, reaches, up}
 use Rattle.sheet.specs.Rules.{Known}
 use Rattle.sheet.specs.declared.table.Table.{Table}
@@ -74,7 +74,7 @@ module _ (t : Table) where
     reached : {a b : ℕ} → Path t a b → reaches t a b ≡ true
     unfolding reaches
     reached {a} {b} (one l) = via-link t.len a b l
-    reached {a} {b} (more {c = c} l p) = via-joins t.len a c b (known a c l).1 (via-link t.len a c l) (reached p)
+    reached {a} {b} (more {c = c} l p) = via-joins t.len a c b ((known a c l).1) (via-link t.len a c l) (reached p)
 
     pub reaches-decides : (a b : ℕ) → Decides (reaches t a b) (Path t a b)
     unfolding reaches

@@ -4,15 +4,15 @@
 --     changed t c        the table after the call, where it is accepted
 --     after t c          the table after the call: as it was, where the call is refused
 --     Called t t' c n    the call answers n and leaves t'
-use Rattle.std.specs.Prelude.{◌≡◌, ℕ, ◌+◌, Bool, not, ◌&&◌, ◌||◌, [], ◌∷◌, nat_le, slice_set}
-use Rattle.common.specs.Refusals.{Rows, Smallest, first_fit, kept_unless}
+use Rattle.std.specs.Prelude.{Bool, not, ◌&&◌, ◌||◌, [], ◌∷◌, ℕ, ◌+◌, nat_le, set}
+use Rattle.common.specs.Refusals.{Answered, Rows, first_fit, kept_unless}
 use Rattle.common.specs.Sets.{adding, removing}
-use Rattle.sheet.specs.Tables.{task_of, put, is_soft, is_hard}
 use Rattle.sheet.specs.Links.{linked, up}
+use Rattle.sheet.specs.Tables.{task_of, put, is_soft, is_hard}
 use Rattle.sheet.specs.declared.table.Kind.{Kind}
 use Rattle.sheet.specs.declared.table.Kind.TheVariants.{Plain, Soft, Hard}
-use Rattle.sheet.specs.declared.table.Task.{Task}
 use Rattle.sheet.specs.declared.table.Table.{Table}
+use Rattle.sheet.specs.declared.table.Task.{Task}
 
 pub data Call : Type 0 where
   task : (min max : ℕ) → Call
@@ -46,19 +46,19 @@ abbrev pub verdict : Table → Call → ℕ
 verdict t c = first_fit (rows t c)
 
 abbrev pub with_durations : ℕ → ℕ → Task → Task
-with_durations min max x = record { min = min; max = max; kind = x.kind; before = x.before }
+with_durations min max x = record x { min = min; max = max }
 
 abbrev pub with_kind : Kind → Task → Task
-with_kind kind x = record { min = x.min; max = x.max; kind = kind; before = x.before }
+with_kind kind x = record x { kind = kind }
 
 abbrev pub with_before : ℕ → Task → Task
-with_before s x = record { min = x.min; max = x.max; kind = x.kind; before = record { 0 = s } }
+with_before s x = record x { before = record { 0 = s } }
 
 abbrev pub new_task : ℕ → ℕ → Task
 new_task min max = record { min = min; max = max; kind = Plain; before = record { 0 = 0 } }
 
 abbrev pub changed : Table → Call → Table
-changed t (task min max) = record { len = t.len + 1; tasks = slice_set t.tasks t.len (new_task min max) }
+changed t (task min max) = record { len = t.len + 1; tasks = set t.tasks t.len (new_task min max) }
 changed t (time k min max) = put t k (with_durations min max (task_of t k))
 changed t (link a b) = put t b (with_before (adding (task_of t b).before.0 a) (task_of t b))
 changed t (cut a b) = put t b (with_before (removing (task_of t b).before.0 a) (task_of t b))
@@ -66,10 +66,8 @@ changed t (hard k d) = put t k (with_kind (Hard d) (task_of t k))
 changed t (soft k) = put t k (with_kind Soft (task_of t k))
 changed t (plain k) = put t k (with_kind Plain (task_of t k))
 
-unfoldable pub after : Table → Call → Table
+abbrev pub after : Table → Call → Table
 after t c = kept_unless (verdict t c) (changed t c) t
 
-pub record Called (t t' : Table) (c : Call) (n : ℕ) : Type 0 where
-  pub says : n ≡ verdict t c
-  pub smallest : Smallest (rows t c) n
-  pub leaves : t' ≡ after t c
+abbrev pub Called : (t t' : Table) (c : Call) (n : ℕ) → Type 0
+Called t t' c n = Answered (rows t c) (changed t c) t t' n

@@ -4,7 +4,7 @@
 --     reaches t a b    the test of a path
 --     up t u x         u is in the up-set of x: it is x, or a path leads from it to x
 --     Closed t s       with each task, the set s has all that are linked to it
-use Rattle.std.specs.Prelude.{◌≡◌, ℕ, zero, suc, Bool, true, ◌&&◌, ◌||◌, ◌==◌}
+use Rattle.std.specs.Prelude.{◌≡◌, Bool, true, ◌&&◌, ◌||◌, ℕ, zero, suc, ◌==◌}
 use Rattle.common.specs.Sets.{has}
 use Rattle.sheet.specs.Tables.{task_of}
 use Rattle.sheet.specs.declared.table.Table.{Table}

@@ -5,14 +5,14 @@
 --     margin_of t k    the deadline of task k less the demand at it; absent for a task that isn't hard
 --     Fits t           no margin is below 0
 --     Tightest t k     task k has the least margin, and no lower-numbered one has as little
-use Rattle.std.specs.Prelude.{◌≡◌, ℕ, ◌<◌, Bool, false, ◌&&◌, pos, ◌-ℤ◌, ◌≤ℤ◌, ◌<ℤ◌, Some, None, Option, nat_le}
+use Rattle.std.specs.Prelude.{◌≡◌, Bool, false, ◌&&◌, ℕ, ◌<◌, nat_le, pos, ◌-ℤ◌, ◌≤ℤ◌, ◌<ℤ◌, Option, Some, None}
 use Rattle.common.specs.Sets.{any}
-use Rattle.sheet.specs.Tables.{task_of, maximum_of, load_of}
+use Rattle.common.specs.declared.ticks.Margin.{Margin}
 use Rattle.sheet.specs.Links.{up}
+use Rattle.sheet.specs.Tables.{task_of, maximum_of, load_of}
 use Rattle.sheet.specs.declared.table.Kind.{Kind}
 use Rattle.sheet.specs.declared.table.Kind.TheVariants.{Plain, Soft, Hard}
 use Rattle.sheet.specs.declared.table.Table.{Table}
-use Rattle.common.specs.declared.ticks.Margin.{Margin}
 
 abbrev pub due_by : ℕ → Kind → Bool
 due_by d Plain = false

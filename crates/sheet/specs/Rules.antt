@@ -1,10 +1,10 @@
 -- The rules that every sheet keeps, which `Sheet` has in its type, and when two sheets are alike. Assumes nothing.
-use Rattle.std.specs.Prelude.{◌≡◌, ℕ, ◌<◌, ◌≤◌, true}
+use Rattle.std.specs.Prelude.{◌≡◌, true, ℕ, ◌≤◌, ◌<◌}
 use Rattle.sheet.specs.Links.{Path, linked}
 use Rattle.sheet.specs.Tables.{task_of, is_plain}
 use Rattle.sheet.specs.declared.table.Kind.TheVariants.{Hard}
-use Rattle.sheet.specs.declared.table.Task.{Task}
 use Rattle.sheet.specs.declared.table.Table.{Table}
+use Rattle.sheet.specs.declared.table.Task.{Task}
 
 -- the durations of a task: 1 ≤ min ≤ max ≤ 65,535
 abbrev pub Lasts : Task → Type 0

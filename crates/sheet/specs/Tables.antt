@@ -6,12 +6,12 @@
 --     expected_of x    how long the task is expected to take: the midpoint of its durations, rounded down
 --     maximum_of x     how long it takes at most
 --     load_of f t p    the sum of f over the tasks that pass p
-use Rattle.std.specs.Prelude.{ℕ, ◌+◌, ◌/◌, Bool, true, false, replicate, slice_index_or, slice_set}
+use Rattle.std.specs.Prelude.{Bool, true, false, ℕ, ◌+◌, ◌/◌, slice_index_or, set, replicate}
 use Rattle.common.specs.Sets.{sum_where}
 use Rattle.sheet.specs.declared.table.Kind.{Kind}
 use Rattle.sheet.specs.declared.table.Kind.TheVariants.{Plain, Soft, Hard}
-use Rattle.sheet.specs.declared.table.Task.{Task}
 use Rattle.sheet.specs.declared.table.Table.{Table}
+use Rattle.sheet.specs.declared.table.Task.{Task}
 
 abbrev pub blank : Task
 blank = record { min = 0; max = 0; kind = Plain; before = record { 0 = 0 } }
@@ -23,7 +23,7 @@ abbrev pub task_of : Table → ℕ → Task
 task_of t k = slice_index_or t.tasks k blank
 
 abbrev pub put : Table → ℕ → Task → Table
-put t k x = record { len = t.len; tasks = slice_set t.tasks k x }
+put t k x = record t { tasks = set t.tasks k x }
 
 unfoldable pub expected_of : Task → ℕ
 expected_of x = (x.min + x.max) / 2

@@ -1,4 +1,6 @@
 // Task sheets: durations, links and deadlines of at most sixteen tasks, the rules that every sheet keeps, and its margins.
+#![tactic(auto)]
+
 mod sheet;
 mod table;
 

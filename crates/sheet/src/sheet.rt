@@ -1,9 +1,10 @@
 // The sheet: a table of tasks with its rules in its type.
-ghost use Rattle.std.specs.Prelude.{◌≡◌, ◌≤◌, length, Decides};
+ghost use Rattle.std.specs.Prelude.{◌≡◌, ◌≤◌, ◌↔◌, length, IsTrue};
+ghost use Rattle.std.specs.Cmp.{on_equiv, partial_equiv_from_equiv};
+ghost use Rattle.std.specs.Ordering.{on};
+ghost use Rattle.sheet.specs.contracts.table.TableEq.TheImpl.Laws.{laws-law as table-equiv};
 ghost use Rattle.sheet.specs.Rules.{Lasting, Due, Known, Acyclic, Clear, Alike};
 ghost use Rattle.sheet.specs.Tables.{empty};
-ghost use Rattle.std.specs.Cmp.Rules.{comparing};
-ghost use Rattle.std.proofs.Common.{rules, arith};
 
 use crate::table::Table;
 
@@ -40,11 +41,19 @@ impl Sheet {
 }
 
 impl PartialEq for Sheet {
-    ghost equals = { λ x y r. Decides r (x.table ≡ y.table) × Decides r (Alike x.table y.table) };
+    ghost eq = { on (λ s. s.table) ⟦<Table as PartialEq>⟧.eq };
 
-    ghost laws = { first_of (Prim.search (comparing, rules), Prim.grind (arith, Self.row.coded.inj)) };
+    ghost laws = { partial_equiv_from_equiv (on_equiv (λ s. s.table) table-equiv) };
 
-    fn eq(&self, other: &Sheet) -> bool {
+    fn eq(&self, other: &Sheet) -> bool
+        ensures value { result ≡ ⟦<Table as PartialEq>⟧.eq self.now.table other.now.table }
+        ensures same { IsTrue result ↔ (self.now.table ≡ other.now.table) }
+        ensures alike { IsTrue result ↔ Alike self.now.table other.now.table }
+    {
         self.table == other.table
     }
+}
+
+impl Eq for Sheet {
+    ghost laws = { on_equiv (λ s. s.table) table-equiv };
 }

@@ -1,15 +1,13 @@
 // The rows that a sheet is made of, with no rule between them.
-ghost use Rattle.std.specs.Prelude.{◌≡◌, ◌+◌, ◌*◌, ◌<◌, ◌≤◌, Decides};
+ghost use Rattle.std.specs.Prelude.{◌≡◌, ◌+◌, ◌*◌, ◌<◌, ◌≤◌};
 ghost use Rattle.sheet.specs.Calls.{changed, cut, link, task, time, with_kind};
 ghost use Rattle.sheet.specs.Margins.{due_by};
 ghost use Rattle.sheet.specs.Tables.{empty, expected_of, maximum_of, put, task_of};
-ghost use Rattle.std.specs.Cmp.Rules.{comparing};
-ghost use Rattle.std.proofs.Common.{rules};
 
 use common::{Expected, Maximum, TaskSet};
 
 // How a task's end counts.
-#[derive(Clone, Copy)]
+#[derive(Clone, Copy, PartialEq, Eq)]
 pub enum Kind {
     // It does not.
     Plain,
@@ -19,7 +17,7 @@ pub enum Kind {
     Hard(u32),
 }
 
-#[derive(Clone, Copy)]
+#[derive(Clone, Copy, PartialEq, Eq)]
 pub struct Task {
     pub min: u16,
     pub max: u16,
@@ -29,7 +27,7 @@ pub struct Task {
 }
 
 // The first `len` rows hold tasks.
-#[derive(Clone, Copy)]
+#[derive(Clone, Copy, PartialEq, Eq)]
 pub struct Table {
     pub len: u8,
     pub tasks: [Task; 16],
@@ -49,14 +47,16 @@ impl Kind {
 
 impl Task {
     // The midpoint of the durations, rounded down.
+    #[tactic(auto, unfolding(crate::specs::Tables::expected_of))]
     pub fn expected(&self) -> Expected
         ensures value { result.0 ≡ expected_of self.now }
-        ensures midpoint { (2 * result.0 ≤ self.now.min + self.now.max) × (self.now.min + self.now.max < 2 * result.0 + 2) }
+        ensures midpoint { 2 * result.0 ≤ self.now.min + self.now.max × self.now.min + self.now.max < 2 * result.0 + 2 }
     {
         Expected((self.min as u32 + self.max as u32) / 2)
     }
 
     // How long the task takes at most.
+    #[tactic(auto, unfolding(crate::specs::Tables::maximum_of))]
     pub fn maximum(&self) -> Maximum
         ensures { result.0 ≡ maximum_of self.now }
     {
@@ -111,7 +111,7 @@ impl Table {
     }
 
     pub fn tie(&mut self, a: u8, b: u8)
-        requires { (a < 16) × (b < 16) }
+        requires { a < 16 × b < 16 }
         ensures { self.new ≡ changed self.old (link a b) }
     {
         let before = self.tasks[b as usize].before;
@@ -119,48 +119,10 @@ impl Table {
     }
 
     pub fn untie(&mut self, a: u8, b: u8)
-        requires { (a < 16) × (b < 16) }
+        requires { a < 16 × b < 16 }
         ensures { self.new ≡ changed self.old (cut a b) }
     {
         let before = self.tasks[b as usize].before;
         self.tasks[b as usize].before = before.without(a);
-    }
-}
-
-impl PartialEq for Kind {
-    ghost equals = { λ x y r. Decides r (x ≡ y) };
-
-    ghost laws = { Prim.search (comparing, rules) };
-
-    fn eq(&self, other: &Kind) -> bool {
-        match (*self, *other) {
-            (Kind::Plain, Kind::Plain) => true,
-            (Kind::Soft, Kind::Soft) => true,
-            (Kind::Hard(a), Kind::Hard(b)) => a == b,
-            _ => false,
-        }
-    }
-}
-
-impl PartialEq for Task {
-    ghost equals = { λ x y r. Decides r (x ≡ y) };
-
-    ghost laws = { Prim.search (comparing, rules) };
-
-    fn eq(&self, other: &Task) -> bool {
-        self.min == other.min
-            && self.max == other.max
-            && self.kind == other.kind
-            && self.before == other.before
-    }
-}
-
-impl PartialEq for Table {
-    ghost equals = { λ x y r. Decides r (x ≡ y) };
-
-    ghost laws = { Prim.search (comparing, rules) };
-
-    fn eq(&self, other: &Table) -> bool {
-        self.len == other.len && self.tasks[..] == other.tasks[..]
     }
 }

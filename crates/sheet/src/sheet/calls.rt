@@ -1,8 +1,8 @@
 // The calls that change a sheet.
-ghost use Rattle.std.specs.Prelude.{◌≡◌, not, IfOk, if◌then◌else◌};
+ghost use Rattle.std.specs.Prelude.{◌≡◌, IfErr, IfOk, IsFalse, IsTrue};
+ghost use Rattle.common.specs.Refusals.{outcome};
 ghost use Rattle.sheet.specs.Calls.{Called, lasts, task, time, link, cut, hard, soft, plain};
 ghost use Rattle.sheet.specs.Linking.{Linking, Cutting};
-ghost use Rattle.common.specs.Refusals.{outcome};
 
 use crate::sheet::Sheet;
 use crate::table::Kind;
@@ -14,8 +14,8 @@ const LAST_DEADLINE: u32 = 1048575;
 
 // The durations of a task, where they keep their rule.
 fn durations(min: u32, max: u32) -> Result<(u16, u16), Refusal>
-    ensures says { outcome result ≡ (if not (lasts min max) then 3 else 0) }
-    ensures gives { IfOk result (λ d. (d.0 ≡ min) × (d.1 ≡ max)) }
+    ensures gives { IfOk result (λ d. IsTrue (lasts min max) × (d.0 ≡ min) × (d.1 ≡ max)) }
+    ensures refuses { IfErr result (λ e. IsFalse (lasts min max) × (e ≡ Refusal.Durations)) }
 {
     if 1 <= min && min <= max && max <= LONGEST {
         return Ok((min as u16, max as u16));
@@ -23,6 +23,7 @@ fn durations(min: u32, max: u32) -> Result<(u16, u16), Refusal>
     Err(Refusal::Durations)
 }
 
+#[tactic(auto, using(crate::proofs::Linking::answering))]
 impl Sheet {
     // Adds a plain task, and answers its number.
     pub fn task(&mut self, min: u32, max: u32) -> Result<u8, Refusal>
@@ -49,6 +50,7 @@ impl Sheet {
     }
 
     // Puts a before b. A link that is there already is accepted.
+    #[tactic(auto, using(crate::proofs::Linking::looking))]
     pub fn link(&mut self, a: u8, b: u8) -> Result<(), Refusal>
         ensures called { Called self.old.table self.new.table (link a b) (outcome result) }
         ensures means { Linking self.old.table self.new.table a b (outcome result) }

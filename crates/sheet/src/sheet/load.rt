@@ -14,6 +14,7 @@ pub struct Load {
 
 impl Sheet {
     // How long the tasks of the set take together, as expected and at most.
+    #[tactic(auto, unfolding(crate::specs::Tables::expected_of, crate::specs::Tables::maximum_of))]
     pub fn load(&self, set: TaskSet) -> Load
         ensures expected { result.expected.0 ≡ load_of expected_of self.now.table (has set.0) }
         ensures maximum { result.maximum.0 ≡ load_of maximum_of self.now.table (has set.0) }

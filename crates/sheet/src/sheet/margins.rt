@@ -1,9 +1,9 @@
 // Margins: whether the deadlines can be met, and which of them is the tightest.
-ghost use Rattle.std.specs.Prelude.{◌≡◌, ℕ, length, IfOk, if◌then◌else◌, None, Decides, MatchOption, slice_index_or};
-ghost use Rattle.sheet.specs.Calls.{unknown};
-ghost use Rattle.sheet.specs.Margins.{needed, margin_for, margin_of, Fits, Tightest};
+ghost use Rattle.std.specs.Prelude.{◌≡◌, if◌then◌else◌, ◌↔◌, ℕ, slice_index_or, length, MatchOption, IfOk, IsTrue, None};
 ghost use Rattle.common.specs.Refusals.{outcome};
 ghost use Rattle.common.specs.Sets.{has};
+ghost use Rattle.sheet.specs.Calls.{unknown};
+ghost use Rattle.sheet.specs.Margins.{needed, margin_for, margin_of, Fits, Tightest};
 ghost use Rattle.sheet.specs.Tables.{task_of};
 
 use crate::sheet::Sheet;
@@ -12,6 +12,7 @@ use common::{Margin, Refusal, TaskSet, first_present};
 
 impl Sheet {
     // The joined up-sets of all hard tasks whose deadline is at most this one.
+    #[tactic(auto, using(crate::proofs::Ancestors::gathering), unfolding(crate::specs::Margins::needed))]
     fn needed(&self, deadline: u32) -> TaskSet
         ensures { (u : ℕ) → has result.0 u ≡ needed self.now.table deadline u }
     {
@@ -25,6 +26,7 @@ impl Sheet {
     }
 
     // What is left of the deadline of a task of the kind; absent where it isn't hard.
+    #[tactic(auto, using(crate::proofs::Margins::demand_is))]
     fn margin_for(&self, kind: Kind) -> Option<Margin>
         ensures { result ≡ margin_for self.now.table kind }
     {
@@ -38,7 +40,8 @@ impl Sheet {
     pub fn margin(&self, t: u8) -> Result<Option<Margin>, Refusal>
         ensures says { outcome result ≡ (if unknown self.now.table t then 1 else 0) }
         ensures gives { IfOk result (λ m. m ≡ margin_of self.now.table t) }
-        ensures alike { IfOk result (λ m. (u : ℕ) → (task_of self.now.table u).kind ≡ (task_of self.now.table t).kind → margin_of self.now.table u ≡ m) }
+        ensures alike { IfOk result (λ m. (u : ℕ) →
+            (task_of self.now.table u).kind ≡ (task_of self.now.table t).kind → margin_of self.now.table u ≡ m) }
     {
         Ok(self.margin_for(self.get(t)?.kind))
     }
@@ -57,7 +60,7 @@ impl Sheet {
 
     // Whether no margin is below 0.
     pub fn fits(&self) -> bool
-        ensures { Decides result (Fits self.now.table) }
+        ensures { IsTrue result ↔ Fits self.now.table }
     {
         for margin in self.margins() {
             let Some(Margin(left)) = margin else {

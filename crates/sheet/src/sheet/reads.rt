@@ -1,8 +1,8 @@
 // What a sheet holds.
-ghost use Rattle.std.specs.Prelude.{◌≡◌, ◌<◌, ◌||◌, IfOk, if◌then◌else◌, OnOk};
+ghost use Rattle.std.specs.Prelude.{◌≡◌, if◌then◌else◌, ◌||◌, ◌<◌, IfOk};
+ghost use Rattle.common.specs.Refusals.{outcome};
 ghost use Rattle.sheet.specs.Calls.{unknown};
 ghost use Rattle.sheet.specs.Links.{linked};
-ghost use Rattle.common.specs.Refusals.{outcome};
 ghost use Rattle.sheet.specs.Tables.{task_of};
 
 use crate::sheet::Sheet;
@@ -20,7 +20,7 @@ impl Sheet {
     // Refuses a number that no task has.
     pub(super) fn known(&self, t: u8) -> Result<(), Refusal>
         ensures says { outcome result ≡ (if unknown self.now.table t then 1 else 0) }
-        ensures below { OnOk result (t < self.now.table.len) }
+        ensures below { IfOk result (λ _. t < self.now.table.len) }
     {
         if t >= self.table.len {
             return Err(Refusal::UnknownTask);
@@ -38,6 +38,7 @@ impl Sheet {
     }
 
     // Whether there is a direct link from a to b.
+    #[tactic(auto, unfolding(crate::specs::Links::linked))]
     pub fn linked(&self, a: u8, b: u8) -> Result<bool, Refusal>
         ensures says { outcome result ≡ (if unknown self.now.table a || unknown self.now.table b then 1 else 0) }
         ensures gives { IfOk result (λ yes. yes ≡ linked self.now.table a b) }

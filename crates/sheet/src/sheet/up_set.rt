@@ -1,9 +1,9 @@
 // The up-set of a task: t with the up-sets of all tasks linked to t.
-ghost use Rattle.std.specs.Prelude.{◌≡◌, ℕ, ◌<◌, false, ◌||◌, ◌⊎◌, IfOk, if◌then◌else◌, Decides};
-ghost use Rattle.sheet.specs.Calls.{unknown};
-ghost use Rattle.sheet.specs.Links.{Path, Closed, up};
+ghost use Rattle.std.specs.Prelude.{◌≡◌, if◌then◌else◌, false, ◌||◌, ◌⊎◌, ◌↔◌, ℕ, ◌<◌, IfOk, IsTrue};
 ghost use Rattle.common.specs.Refusals.{outcome};
 ghost use Rattle.common.specs.Sets.{has};
+ghost use Rattle.sheet.specs.Calls.{unknown};
+ghost use Rattle.sheet.specs.Links.{Path, Closed, up};
 
 use crate::sheet::Sheet;
 use common::{Refusal, TaskSet};
@@ -11,6 +11,7 @@ use common::{Refusal, TaskSet};
 impl Sheet {
     // `found` with the up-set of t. Only a task that has not been found is entered, and it is found from then on: so
     // each is entered at most once, however many paths lead to it.
+    #[tactic(auto, using(crate::proofs::Ancestors::entering), unfolding(crate::specs::Links::linked))]
     pub(super) fn gather(&self, t: u8, found: TaskSet) -> TaskSet
         requires task { t < self.now.table.len }
         requires fresh { has found.0 t ≡ false }
@@ -27,10 +28,11 @@ impl Sheet {
         all.with(t)
     }
 
+    #[tactic(auto, using(crate::proofs::Ancestors::climbing))]
     pub fn up_set(&self, t: u8) -> Result<TaskSet, Refusal>
         ensures says { outcome result ≡ (if unknown self.now.table t then 1 else 0) }
         ensures gives { IfOk result (λ s. (u : ℕ) → has s.0 u ≡ up self.now.table u t) }
-        ensures paths { IfOk result (λ s. (u : ℕ) → Decides (has s.0 u) ((u ≡ t) ⊎ Path self.now.table u t)) }
+        ensures paths { IfOk result (λ s. (u : ℕ) → IsTrue (has s.0 u) ↔ ((u ≡ t) ⊎ Path self.now.table u t)) }
     {
         self.known(t)?;
         Ok(self.gather(t, TaskSet::EMPTY))

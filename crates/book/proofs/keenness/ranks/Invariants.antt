@@ -1,5 +1,5 @@
-use Rattle.common.proofs.Ranks.{Listed}
 use Rattle.book.specs.Keenest.{Keenness}
+use Rattle.common.proofs.Ranks.{Listed}
 use Rattle.book.proofs.keenness.ranks.Given as goal
 
 abbrev pub invariant-loop-t : goal.invariant-loop-t

@@ -1,22 +1,14 @@
-use Rattle.std.proofs.Common.{refl, arith, rules}
-use Rattle.std.proofs.lemmas.Bool.Decides.{nat_tests}
-use Rattle.common.proofs.Refusals.{answered-accepted, answered-refused}
+use Rattle.std.proofs.Common.{arith}
+use Rattle.book.proofs.Steps.{clear-none, dropped-means, ok-none}
+use Rattle.book.proofs.Written.{every-set}
 use Rattle.book.specs.Steps.{Clear, StepsOk, empty_steps}
-use Rattle.book.specs.Written.{every_set}
-use Rattle.book.specs.StepsLemmas.{clear_none, drop_rising, dropped_means, ok_none}
 use Rattle.book.proofs.step.StepBook.drop_steps.Goals as goal
 
-pub returns-then-t-ge-MOST : goal.returns-then-t-ge-MOST
-returns-then-t-ge-MOST c =
-    let a = answered-refused _ _ _ (drop_rising c.args.t) 1 (grind (arith, nat_tests)) (omega arith) in
-    record { answers = a; means = dropped_means _ _ _ c.args.self.now.whole _ a }
+pub invariant_of-self-clause-sound : goal.invariant_of-self-clause-sound
+invariant_of-self-clause-sound c = every-set StepsOk _ c.args.t empty_steps empty_steps c.args.self.now.sound ok-none
 
-pub invariant-of-self : goal.invariant-of-self
-invariant-of-self c =
-    let x = c.args.self.now in
-    (search rules, (every_set StepsOk x.steps c.args.t empty_steps empty_steps x.sound ok_none, (every_set Clear x.steps c.args.t empty_steps empty_steps x.clear clear_none, tt)))
+pub invariant_of-self-clause-clear : goal.invariant_of-self-clause-clear
+invariant_of-self-clause-clear c = every-set Clear _ c.args.t empty_steps empty_steps c.args.self.now.clear clear-none
 
-pub returns : goal.returns
-returns c =
-    let a = answered-accepted _ _ _ (drop_rising c.args.t) (grind (arith, nat_tests)) _ refl in
-    record { answers = a; means = dropped_means _ _ _ c.args.self.now.whole _ a }
+pub returns-clause-means : goal.returns-clause-means
+returns-clause-means c = dropped-means _ _ c.args.self.now.whole (omega arith)

@@ -1,7 +1,9 @@
-use Rattle.std.proofs.Common.{refl}
+use Rattle.book.proofs.Steps.{all-none, clear-none, ok-none}
 use Rattle.book.specs.Steps.{Clear, StepsOk}
-use Rattle.book.specs.StepsLemmas.{clear_none, ok_none, all_none}
 use Rattle.book.proofs.step.StepBook.new.Goals as goal
 
-pub invariant-of-result : goal.invariant-of-result
-invariant-of-result c = (refl, (all_none StepsOk ok_none, (all_none Clear clear_none, tt)))
+pub invariant_of-result-clause-sound : goal.invariant_of-result-clause-sound
+invariant_of-result-clause-sound c = all-none StepsOk ok-none
+
+pub invariant_of-result-clause-clear : goal.invariant_of-result-clause-clear
+invariant_of-result-clause-clear c = all-none Clear clear-none

@@ -1,8 +1,7 @@
-use Rattle.std.proofs.Common.{◌/◌, ◌^◌, eqb, sym, ap, ◌∙◌, arith}
-use lib.Bits.{and_mask}
-use Rattle.std.proofs.lemmas.Bool.{le-ltb}
-use Rattle.common.specs.Sets.{has}
+use Rattle.std.proofs.Common.{sym, ap, ◌∙◌, ◌/◌, ◌^◌, arith, eqb, le-ltb}
+use Rattle.std.proofs.lemmas.Nat.{and_mask}
 use Rattle.common.proofs.Sets.{has-past}
+use Rattle.common.specs.Sets.{has}
 use Rattle.common.proofs.task_set.TaskSet.contains.Goals as goal
 
 pub returns-then-t-lt-MOST : goal.returns-then-t-lt-MOST

@@ -1,6 +1,6 @@
 use Rattle.std.proofs.Common.{ap, ◌∙◌, arith}
-use Rattle.common.specs.Sets.{has}
 use Rattle.common.proofs.Sets.{has-none, lowest-trailing}
+use Rattle.common.specs.Sets.{has}
 use Rattle.common.proofs.task_set.TaskSet.lowest.Goals as goal
 
 pub returns-then-self-eq0 : goal.returns-then-self-eq0

@@ -1,9 +1,7 @@
-use Rattle.std.proofs.Common.{◌≡◌, ◌*◌, ◌%◌, ◌^◌, true, cond, ◌&&◌, ◌||◌, eqb, ltb, sym, ap, ◌∙◌}
-use lib.Bits.{bit_or}
+use Rattle.std.proofs.Common.{◌≡◌, ap, sym, ◌∙◌, true, cond, ◌&&◌, ◌||◌, ◌%◌, ◌*◌, ◌^◌, bit_or, eqb, ltb, lt-ltb}
 use Rattle.std.proofs.lemmas.Nat.{one_shl}
-use Rattle.std.proofs.lemmas.Bool.{lt-ltb}
-use Rattle.common.specs.Sets.{has, adding}
 use Rattle.common.proofs.Sets.{has-adding, or-adding}
+use Rattle.common.specs.Sets.{has, adding}
 use Rattle.common.proofs.task_set.TaskSet.with.Goals as goal
 
 pub returns : goal.returns

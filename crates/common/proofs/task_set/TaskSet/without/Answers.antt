@@ -1,9 +1,8 @@
-use Rattle.std.proofs.Common.{◌≡◌, ◌-◌, ◌*◌, ◌%◌, ◌^◌, sym, ap, ◌∙◌, arith}
-use lib.Bits.{bit_and}
-use Rattle.std.proofs.lemmas.Nat.{one_shl}
+use Rattle.std.proofs.Common.{◌≡◌, ap, sym, ◌∙◌, ◌%◌, ◌*◌, ◌-◌, ◌^◌, arith, bit_and}
 use Rattle.std.proofs.lemmas.Bool.{cond-false}
-use Rattle.common.specs.Sets.{has, removing}
+use Rattle.std.proofs.lemmas.Nat.{one_shl}
 use Rattle.common.proofs.Sets.{and-removing, has-past, has-removing}
+use Rattle.common.specs.Sets.{has, removing}
 use Rattle.common.proofs.task_set.TaskSet.without.Goals as goal
 
 pub returns-then-t-ge-MOST : goal.returns-then-t-ge-MOST

@@ -1,5 +1,5 @@
-use Rattle.sheet.specs.Links.{linked}
 use Rattle.sheet.proofs.Ancestors.{Gathered, ancestors}
+use Rattle.sheet.specs.Links.{linked}
 use Rattle.sheet.proofs.sheet.Sheet.+gather.Given as goal
 
 abbrev pub decreases-gather : goal.decreases-gather

@@ -1,6 +1,13 @@
-use Rattle.common.specs.Sets.{has}
-use Rattle.sheet.proofs.Loads.{Loading}
+use Rattle.std.proofs.Common.{◌≡◌, ◌*◌, ◌≤◌}
+use Rattle.common.specs.Sets.{has, sum_where}
+use Rattle.sheet.specs.Tables.{expected_of, maximum_of, task_of}
 use Rattle.sheet.proofs.sheet.Sheet.load.Given as goal
 
+-- the two sums so far, which stay small
 abbrev pub invariant-loop-t : goal.invariant-loop-t
-invariant-loop-t l = Loading l.self.table (has l.set.0) l.t l.expected.0 l.maximum.0
+invariant-loop-t l = record {
+  expected_is : l.expected.0 ≡ sum_where (has l.set.0) (λ k. expected_of (task_of l.self.table k)) l.t;
+  expected_small : l.expected.0 ≤ 65535 * l.t;
+  maximum_is : l.maximum.0 ≡ sum_where (has l.set.0) (λ k. maximum_of (task_of l.self.table k)) l.t;
+  maximum_small : l.maximum.0 ≤ 65535 * l.t;
+}
