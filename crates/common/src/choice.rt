@@ -1,8 +1,7 @@
 // The one rule by which the best is chosen: the lowest index among the best.
-ghost use Rattle.std.specs.Prelude.{◌≡◌, Bool, ℕ, slice_index_or, length, MatchOption, None};
-ghost use Rattle.std.specs.Cmp.{IsStrictWeakOrder};
+ghost use Rattle.std.specs.Prelude.{◌≡◌, Bool, true, false, ℕ, slice_index_or, length, MatchOption, None};
 ghost use Rattle.common.specs.Ranks.{FirstBest, FirstPresent, or_absent};
-ghost use Rattle.common.specs.RankLaws.{present-ordered};
+ghost use Rattle.common.specs.RankLaws.{present-one_way, present-chain};
 
 // A rank: its comparison is a total order up to equal rank. Of two ranks at most one is better, and where neither x is better
 // than y nor y than z, x is not better than z.
@@ -12,14 +11,18 @@ pub trait Rank {
     fn better(&self, other: &Self) -> bool
         ensures { result ≡ beats self.now other.now };
 
-    ghost ordered: { IsStrictWeakOrder beats };
+    ghost one_way: { (x y : Self) → beats x y ≡ true → beats y x ≡ false };
+
+    ghost chain: { (x y z : Self) → beats x y ≡ false → beats y z ≡ false → beats x z ≡ false };
 }
 
 // Where some ranks are absent, any rank is better than none.
 impl<R: Rank> Rank for Option<R> {
     ghost beats = { or_absent R.beats };
 
-    ghost ordered = { present-ordered R.ordered };
+    ghost one_way = { present-one_way R.one_way };
+
+    ghost chain = { present-chain R.chain };
 
     fn better(&self, other: &Option<R>) -> bool {
         match (self, other) {

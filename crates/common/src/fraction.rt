@@ -1,6 +1,7 @@
 // Fractions, of which the greatest is the best.
 ghost use Rattle.std.specs.Prelude.{◌≡◌, ◌*◌, ◌<◌, nat_lt, MatchOption};
-ghost use Rattle.common.specs.RankLaws.{fractions-ordered};
+ghost use Rattle.common.specs.RankLaws.{cross-chain};
+ghost use Rattle.std.proofs.Common.{rules};
 
 use crate::choice::Rank;
 
@@ -27,7 +28,9 @@ impl Fraction {
 impl Rank for Fraction {
     ghost beats = { λ x y. nat_lt (y.num * x.den) (x.num * y.den) };
 
-    ghost ordered = { fractions-ordered (λ f. f.num) (λ f. f.den) (λ f. f.whole) };
+    ghost one_way = { Prim.search rules };
+
+    ghost chain = { λ x y z. cross-chain x.num x.den y.num y.den z.num z.den y.whole };
 
     fn better(&self, other: &Fraction) -> bool {
         (other.num as u64) * (self.den as u64) < (self.num as u64) * (other.den as u64)

@@ -1,12 +1,12 @@
 // Why a call is refused. A refused call leaves everything as it was.
-ghost use Rattle.std.specs.Prelude.{◌≡◌};
+ghost use Rattle.std.specs.Prelude.{◌≡◌, ◌↔◌, IsTrue, nat_eq};
+ghost use Rattle.std.specs.Ordering.{on};
+ghost use Rattle.std.specs.Cmp.Rules.{comparing};
+ghost use Rattle.std.proofs.Common.{rules};
 ghost use Rattle.common.specs.Refusals.{number};
 
-use std::error::Error;
-use std::fmt;
-
 // Where several fit a call, the smallest number is answered.
-#[derive(Clone, Copy, PartialEq, Eq, Debug)]
+#[derive(Clone, Copy)]
 pub enum Refusal {
     // No task has the number; of a call that changes a book, the number is above 15.
     UnknownTask,
@@ -46,20 +46,15 @@ impl Refusal {
     }
 }
 
-impl fmt::Display for Refusal {
-    fn fmt<W: fmt::Write>(&self, f: &mut fmt::Formatter<W>) -> fmt::Result {
-        f.write_str(match self {
-            Refusal::UnknownTask => "no task has the number",
-            Refusal::SheetFull => "sixteen tasks are there",
-            Refusal::Durations => "durations must keep 1 <= min <= max <= 65535",
-            Refusal::Circle => "the link would close a circle",
-            Refusal::NoLink => "there is no such direct link",
-            Refusal::DeadlineRange => "a deadline must keep 1 <= deadline <= 1048575",
-            Refusal::OtherKind => "a soft task can't be marked hard, nor a hard one soft",
-            Refusal::BookRule => "the ramp, the step or the weight breaks its rule",
-            Refusal::StepsFull => "six steps are there",
-        })
+impl PartialEq for Refusal {
+    ghost eq = { on number nat_eq };
+
+    ghost laws = { Prim.search (comparing, rules) };
+
+    fn eq(&self, other: &Refusal) -> bool
+        ensures value { result ≡ nat_eq (number self.now) (number other.now) }
+        ensures same { IsTrue result ↔ (self.now ≡ other.now) }
+    {
+        self.number() == other.number()
     }
 }
-
-impl Error for Refusal {}

@@ -1,11 +1,14 @@
 // A set of task numbers as a bit mask: bit t is set where t is a member.
-ghost use Rattle.std.specs.Prelude.{◌≡◌, false, not, ◌&&◌, ◌||◌, ℕ, nat_lt, MatchOption, count_ones, if◌then◌else◌, ◌==◌};
+ghost use Rattle.std.specs.Prelude.{◌≡◌, false, not, ◌&&◌, ◌||◌, ℕ, nat_lt, MatchOption, count_ones, if◌then◌else◌, ◌==◌, ◌↔◌, IsTrue, nat_eq};
+ghost use Rattle.std.specs.Ordering.{on};
+ghost use Rattle.std.specs.Cmp.Rules.{comparing};
+ghost use Rattle.std.proofs.Common.{rules};
 ghost use Rattle.common.specs.Sets.{has, adding, removing, Lowest};
 
 // A task number is below this.
 pub const MOST: u8 = 16;
 
-#[derive(Clone, Copy, PartialEq, Eq)]
+#[derive(Clone, Copy)]
 pub struct TaskSet(u16);
 
 impl TaskSet {
@@ -52,5 +55,18 @@ impl TaskSet {
             return None;
         }
         Some(self.0.trailing_zeros() as u8)
+    }
+}
+
+impl PartialEq for TaskSet {
+    ghost eq = { on (λ s. s.0) nat_eq };
+
+    ghost laws = { Prim.search (comparing, rules) };
+
+    fn eq(&self, other: &TaskSet) -> bool
+        ensures value { result ≡ nat_eq self.now.0 other.now.0 }
+        ensures same { IsTrue result ↔ (self.now ≡ other.now) }
+    {
+        self.0 == other.0
     }
 }

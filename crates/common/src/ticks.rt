@@ -53,7 +53,9 @@ impl Maximum {
 impl Rank for Margin {
     ghost beats = { λ x y. int_lt x.0 y.0 };
 
-    ghost ordered = { Prim.search rules };
+    ghost one_way = { Prim.search rules };
+
+    ghost chain = { Prim.search rules };
 
     fn better(&self, other: &Margin) -> bool {
         self.0 < other.0

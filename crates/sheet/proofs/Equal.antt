@@ -1,20 +1,13 @@
--- `==` holds of the tables that are the same value, and under the rules of a sheet those are the ones that are alike. Assumes nothing.
-use Rattle.std.proofs.Common.{List, ◌≡◌, refl, sym, ap, ap₂, subst, ◌∙◌, true, false, ⊎_elim, ℕ, ◌≤◌, ◌<◌, arith, eqb-true, Decides}
-use Rattle.std.proofs.lemmas.Bool.{cases_Bool, cases_lt, and_parts, false≢true}
+-- Under the rules of a sheet the tables that are alike are the same value. Assumes nothing.
+use Rattle.std.proofs.Common.{List, ◌≡◌, sym, ap, ap₂, ◌∙◌, false, ⊎_elim, ℕ, ◌≤◌, ◌<◌, arith}
+use Rattle.std.proofs.lemmas.Bool.{cases_Bool, cases_lt}
 use Rattle.std.proofs.lemmas.List.{get_or_default, same_lists}
-use Rattle.std.specs.Cmp.Lexicographic.{pointwise_decides}
 use Rattle.common.proofs.Sets.{same-set}
 use Rattle.sheet.proofs.Rules.{Sound, plain-is}
 use Rattle.sheet.specs.Links.{linked}
 use Rattle.sheet.specs.Rules.{Alike}
 use Rattle.sheet.specs.Tables.{blank, task_of}
-use Rattle.sheet.specs.contracts.table.KindPartialEq.TheImpl as kinds
-use Rattle.sheet.specs.contracts.table.TaskPartialEq.TheImpl as tasks
-use Rattle.sheet.specs.contracts.table.TaskEq.TheImpl.Laws as task_laws
-use Rattle.sheet.specs.contracts.table.TablePartialEq.TheImpl as tables
-use Rattle.sheet.specs.contracts.table.TableEq.TheImpl.Laws as table_laws
 use Rattle.sheet.specs.declared.table.Kind.{Kind}
-use Rattle.sheet.specs.declared.table.Kind.TheVariants.{Plain, Soft, Hard}
 use Rattle.sheet.specs.declared.table.Table.{Table}
 use Rattle.sheet.specs.declared.table.Task.{Task}
 
@@ -27,36 +20,6 @@ same-rows x y a b c d = λ i. row (a i) (b i) (c i) (d i)
 
 table : ℕ → List Task → Table
 table len tasks = record { len = len; tasks = tasks }
-
--- ---- `==`
-
-kind-same : (x y : Kind) → kinds.ghosts.eq x y ≡ true → x ≡ y
-kind-same Plain Plain e = refl
-kind-same Plain Soft e = absurd (false≢true e)
-kind-same Plain (Hard d) e = absurd (false≢true e)
-kind-same Soft Plain e = absurd (false≢true e)
-kind-same Soft Soft e = refl
-kind-same Soft (Hard d) e = absurd (false≢true e)
-kind-same (Hard c) Plain e = absurd (false≢true e)
-kind-same (Hard c) Soft e = absurd (false≢true e)
-kind-same (Hard c) (Hard d) e = ap Hard (eqb-true c d e)
-
-task-same : (x y : Task) → tasks.ghosts.eq x y ≡ true → x ≡ y
-task-same x y e =
-    let p = and_parts _ _ e in
-    let q = and_parts _ _ p.1 in
-    let r = and_parts _ _ q.1 in
-    same-rows x y (eqb-true _ _ p.0) (eqb-true _ _ q.0) (kind-same _ _ r.0) (eqb-true _ _ r.1)
-
-task-decides : (x y : Task) → Decides (tasks.ghosts.eq x y) (x ≡ y)
-task-decides x y = (task-same x y, λ e. subst (λ (z : Task). tasks.ghosts.eq x z ≡ true) e (task_laws.laws-law.refl x))
-
-pub table-decides : (x y : Table) → Decides (tables.ghosts.eq x y) (x ≡ y)
-unfolding table
-table-decides x y = (
-  λ e. let p = and_parts _ _ e in ap₂ table (eqb-true _ _ p.0) ((pointwise_decides task-decides x.tasks y.tasks).0 p.1),
-  λ e. subst (λ (z : Table). tables.ghosts.eq x z ≡ true) e (table_laws.laws-law.refl x),
-)
 
 -- ---- alike tables
 

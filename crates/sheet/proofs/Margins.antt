@@ -4,15 +4,15 @@ use Rattle.std.proofs.lemmas.Int.{ints}
 use Rattle.std.specs.Prelude.{int_lt}
 use Rattle.common.proofs.Sets.{sum-same}
 use Rattle.common.specs.Ranks.{FirstPresent}
-use Rattle.common.specs.Sets.{has}
+use Rattle.common.specs.Sets.{has, sum_where}
 use Rattle.common.specs.declared.ticks.Margin.{Margin}
 use Rattle.sheet.proofs.Rules.{Sound, plain-is}
 use Rattle.sheet.specs.Margins.{needed, demand, margin_for, margin_of, Tightest}
-use Rattle.sheet.specs.Tables.{load_of, maximum_of, task_of}
+use Rattle.sheet.specs.Tables.{maximum_of, task_of}
 use Rattle.sheet.specs.declared.table.Table.{Table}
 
 -- the load of the tasks that must have ended by d is the demand at d
-pub demand_is : (t : Table) (d s : ℕ) → ((u : ℕ) → has s u ≡ needed t d u) → load_of maximum_of t (has s) ≡ demand t d
+pub demand_is : (t : Table) (d s : ℕ) → ((u : ℕ) → has s u ≡ needed t d u) → sum_where (has s) (λ u. maximum_of (task_of t u)) t.len ≡ demand t d
 unfolding demand
 demand_is t d s e = sum-same (has s) (needed t d) (λ u. maximum_of (task_of t u)) t.len (λ k _. e k)
 

@@ -1,11 +1,10 @@
 -- What each call on a sheet answers, and the table that it leaves. Assumes nothing.
---     rows t c           the refusals that the call may get, by number, each with the test whether it fits
---     verdict t c        0 where the call is accepted, else the number of its refusal
---     changed t c        the table after the call, where it is accepted
---     after t c          the table after the call: as it was, where the call is refused
---     Called t t' c n    the call answers n and leaves t'
-use Rattle.std.specs.Prelude.{Bool, not, ◌&&◌, ◌||◌, [], ◌∷◌, ℕ, ◌+◌, nat_le, set}
-use Rattle.common.specs.Refusals.{Answered, Rows, first_fit, kept_unless}
+--     rows    t c    the refusals that the call may get, by number, each with the test whether it fits
+--     verdict t c    0 where the call is accepted, else the number of its refusal
+--     changed t c    the table after the call, where it is accepted
+--     after   t c    the table after the call: as it was, where the call is refused
+use Rattle.std.specs.Prelude.{Bool, not, ◌&&◌, ◌||◌, [], ◌∷◌, ℕ, ◌+◌, nat_le, set, if◌then◌else◌, ◌==◌}
+use Rattle.common.specs.Refusals.{Rows, first_fit}
 use Rattle.common.specs.Sets.{adding, removing}
 use Rattle.sheet.specs.Links.{linked, up}
 use Rattle.sheet.specs.Tables.{task_of, put, is_soft, is_hard}
@@ -46,13 +45,13 @@ abbrev pub verdict : Table → Call → ℕ
 verdict t c = first_fit (rows t c)
 
 abbrev pub with_durations : ℕ → ℕ → Task → Task
-with_durations min max x = record x { min = min; max = max }
+with_durations min max x = record { min = min; max = max; kind = x.kind; before = x.before }
 
 abbrev pub with_kind : Kind → Task → Task
-with_kind kind x = record x { kind = kind }
+with_kind kind x = record { min = x.min; max = x.max; kind = kind; before = x.before }
 
 abbrev pub with_before : ℕ → Task → Task
-with_before s x = record x { before = record { 0 = s } }
+with_before s x = record { min = x.min; max = x.max; kind = x.kind; before = record { 0 = s } }
 
 abbrev pub new_task : ℕ → ℕ → Task
 new_task min max = record { min = min; max = max; kind = Plain; before = record { 0 = 0 } }
@@ -67,7 +66,4 @@ changed t (soft k) = put t k (with_kind Soft (task_of t k))
 changed t (plain k) = put t k (with_kind Plain (task_of t k))
 
 abbrev pub after : Table → Call → Table
-after t c = kept_unless (verdict t c) (changed t c) t
-
-abbrev pub Called : (t t' : Table) (c : Call) (n : ℕ) → Type 0
-Called t t' c n = Answered (rows t c) (changed t c) t t' n
+after t c = if verdict t c == 0 then changed t c else t

@@ -4,3 +4,4 @@ pub mod Rules
 pub mod Calls
 pub mod Linking
 pub mod Margins
+pub mod EqualLaws

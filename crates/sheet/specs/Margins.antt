@@ -6,10 +6,10 @@
 --     Fits t           no margin is below 0
 --     Tightest t k     task k has the least margin, and no lower-numbered one has as little
 use Rattle.std.specs.Prelude.{◌≡◌, Bool, false, ◌&&◌, ℕ, ◌<◌, nat_le, pos, ◌-ℤ◌, ◌≤ℤ◌, ◌<ℤ◌, Option, Some, None}
-use Rattle.common.specs.Sets.{any}
+use Rattle.common.specs.Sets.{any, sum_where}
 use Rattle.common.specs.declared.ticks.Margin.{Margin}
 use Rattle.sheet.specs.Links.{up}
-use Rattle.sheet.specs.Tables.{task_of, maximum_of, load_of}
+use Rattle.sheet.specs.Tables.{task_of, maximum_of}
 use Rattle.sheet.specs.declared.table.Kind.{Kind}
 use Rattle.sheet.specs.declared.table.Kind.TheVariants.{Plain, Soft, Hard}
 use Rattle.sheet.specs.declared.table.Table.{Table}
@@ -23,7 +23,7 @@ unfoldable pub needed : Table → ℕ → ℕ → Bool
 needed t d u = any t.len (λ h. due_by d (task_of t h).kind && up t u h)
 
 unfoldable pub demand : Table → ℕ → ℕ
-demand t d = load_of maximum_of t (needed t d)
+demand t d = sum_where (needed t d) (λ u. maximum_of (task_of t u)) t.len
 
 -- the margin at the deadline d
 abbrev pub left_at : Table → ℕ → Margin

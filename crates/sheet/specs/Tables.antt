@@ -23,7 +23,7 @@ abbrev pub task_of : Table → ℕ → Task
 task_of t k = slice_index_or t.tasks k blank
 
 abbrev pub put : Table → ℕ → Task → Table
-put t k x = record t { tasks = set t.tasks k x }
+put t k x = record { len = t.len; tasks = set t.tasks k x }
 
 unfoldable pub expected_of : Task → ℕ
 expected_of x = (x.min + x.max) / 2

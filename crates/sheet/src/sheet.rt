@@ -1,8 +1,8 @@
 // The sheet: a table of tasks with its rules in its type.
 ghost use Rattle.std.specs.Prelude.{◌≡◌, ◌≤◌, ◌↔◌, length, IsTrue};
-ghost use Rattle.std.specs.Cmp.{on_equiv, partial_equiv_from_equiv};
+ghost use Rattle.std.specs.Cmp.{on_per};
 ghost use Rattle.std.specs.Ordering.{on};
-ghost use Rattle.sheet.specs.contracts.table.TableEq.TheImpl.Laws.{laws-law as table-equiv};
+ghost use Rattle.sheet.specs.EqualLaws.{table_eq, tables-compare};
 ghost use Rattle.sheet.specs.Rules.{Lasting, Due, Known, Acyclic, Clear, Alike};
 ghost use Rattle.sheet.specs.Tables.{empty};
 
@@ -41,19 +41,15 @@ impl Sheet {
 }
 
 impl PartialEq for Sheet {
-    ghost eq = { on (λ s. s.table) ⟦<Table as PartialEq>⟧.eq };
+    ghost eq = { on (λ s. s.table) table_eq };
 
-    ghost laws = { partial_equiv_from_equiv (on_equiv (λ s. s.table) table-equiv) };
+    ghost laws = { on_per (λ s. s.table) tables-compare };
 
     fn eq(&self, other: &Sheet) -> bool
-        ensures value { result ≡ ⟦<Table as PartialEq>⟧.eq self.now.table other.now.table }
+        ensures value { result ≡ table_eq self.now.table other.now.table }
         ensures same { IsTrue result ↔ (self.now.table ≡ other.now.table) }
         ensures alike { IsTrue result ↔ Alike self.now.table other.now.table }
     {
         self.table == other.table
     }
-}
-
-impl Eq for Sheet {
-    ghost laws = { on_equiv (λ s. s.table) table-equiv };
 }

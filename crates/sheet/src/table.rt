@@ -1,13 +1,14 @@
 // The rows that a sheet is made of, with no rule between them.
-ghost use Rattle.std.specs.Prelude.{◌≡◌, ◌+◌, ◌*◌, ◌<◌, ◌≤◌};
+ghost use Rattle.std.specs.Prelude.{◌≡◌, ◌+◌, ◌*◌, ◌<◌, ◌≤◌, ◌↔◌, IsTrue};
 ghost use Rattle.sheet.specs.Calls.{changed, cut, link, task, time, with_kind};
+ghost use Rattle.sheet.specs.EqualLaws.{kind_eq, kinds-compare, task_eq, tasks-compare, table_eq, tables-compare};
 ghost use Rattle.sheet.specs.Margins.{due_by};
 ghost use Rattle.sheet.specs.Tables.{empty, expected_of, maximum_of, put, task_of};
 
 use common::{Expected, Maximum, TaskSet};
 
 // How a task's end counts.
-#[derive(Clone, Copy, PartialEq, Eq)]
+#[derive(Clone, Copy)]
 pub enum Kind {
     // It does not.
     Plain,
@@ -17,7 +18,7 @@ pub enum Kind {
     Hard(u32),
 }
 
-#[derive(Clone, Copy, PartialEq, Eq)]
+#[derive(Clone, Copy)]
 pub struct Task {
     pub min: u16,
     pub max: u16,
@@ -27,7 +28,7 @@ pub struct Task {
 }
 
 // The first `len` rows hold tasks.
-#[derive(Clone, Copy, PartialEq, Eq)]
+#[derive(Clone, Copy)]
 pub struct Table {
     pub len: u8,
     pub tasks: [Task; 16],
@@ -124,5 +125,55 @@ impl Table {
     {
         let before = self.tasks[b as usize].before;
         self.tasks[b as usize].before = before.without(a);
+    }
+}
+
+impl PartialEq for Kind {
+    ghost eq = { kind_eq };
+
+    ghost laws = { kinds-compare };
+
+    #[tactic(auto, using(crate::specs::EqualLaws::deciding))]
+    fn eq(&self, other: &Kind) -> bool
+        ensures value { result ≡ kind_eq self.now other.now }
+        ensures same { IsTrue result ↔ (self.now ≡ other.now) }
+    {
+        match (*self, *other) {
+            (Kind::Plain, Kind::Plain) => true,
+            (Kind::Soft, Kind::Soft) => true,
+            (Kind::Hard(a), Kind::Hard(b)) => a == b,
+            _ => false,
+        }
+    }
+}
+
+impl PartialEq for Task {
+    ghost eq = { task_eq };
+
+    ghost laws = { tasks-compare };
+
+    #[tactic(auto, using(crate::specs::EqualLaws::deciding))]
+    fn eq(&self, other: &Task) -> bool
+        ensures value { result ≡ task_eq self.now other.now }
+        ensures same { IsTrue result ↔ (self.now ≡ other.now) }
+    {
+        self.min == other.min
+            && self.max == other.max
+            && self.kind == other.kind
+            && self.before == other.before
+    }
+}
+
+impl PartialEq for Table {
+    ghost eq = { table_eq };
+
+    ghost laws = { tables-compare };
+
+    #[tactic(auto, using(crate::specs::EqualLaws::deciding))]
+    fn eq(&self, other: &Table) -> bool
+        ensures value { result ≡ table_eq self.now other.now }
+        ensures same { IsTrue result ↔ (self.now ≡ other.now) }
+    {
+        self.len == other.len && self.tasks[..] == other.tasks[..]
     }
 }

@@ -1,7 +1,8 @@
 // The calls that change a sheet.
 ghost use Rattle.std.specs.Prelude.{◌≡◌, IfErr, IfOk, IsFalse, IsTrue};
-ghost use Rattle.common.specs.Refusals.{outcome};
-ghost use Rattle.sheet.specs.Calls.{Called, lasts, task, time, link, cut, hard, soft, plain};
+ghost use Rattle.common.specs.Refusals.{Smallest, outcome};
+ghost use Rattle.sheet.specs.Calls.{after, lasts, rows, verdict};
+ghost use Rattle.sheet.specs.Calls.{task, time, link, cut, hard, soft, plain};
 ghost use Rattle.sheet.specs.Linking.{Linking, Cutting};
 
 use crate::sheet::Sheet;
@@ -27,7 +28,9 @@ fn durations(min: u32, max: u32) -> Result<(u16, u16), Refusal>
 impl Sheet {
     // Adds a plain task, and answers its number.
     pub fn task(&mut self, min: u32, max: u32) -> Result<u8, Refusal>
-        ensures called { Called self.old.table self.new.table (task min max) (outcome result) }
+        ensures says { outcome result ≡ verdict self.old.table (task min max) }
+        ensures smallest { Smallest (rows self.old.table (task min max)) (outcome result) }
+        ensures leaves { self.new.table ≡ after self.old.table (task min max) }
         ensures gives { IfOk result (λ k. k ≡ self.old.table.len) }
     {
         let t = self.table.len;
@@ -41,7 +44,9 @@ impl Sheet {
 
     // Sets new durations; kind, deadline and links stay.
     pub fn time(&mut self, t: u8, min: u32, max: u32) -> Result<(), Refusal>
-        ensures { Called self.old.table self.new.table (time t min max) (outcome result) }
+        ensures says { outcome result ≡ verdict self.old.table (time t min max) }
+        ensures smallest { Smallest (rows self.old.table (time t min max)) (outcome result) }
+        ensures leaves { self.new.table ≡ after self.old.table (time t min max) }
     {
         self.known(t)?;
         let (min, max) = durations(min, max)?;
@@ -52,7 +57,9 @@ impl Sheet {
     // Puts a before b. A link that is there already is accepted.
     #[tactic(auto, using(crate::proofs::Linking::looking))]
     pub fn link(&mut self, a: u8, b: u8) -> Result<(), Refusal>
-        ensures called { Called self.old.table self.new.table (link a b) (outcome result) }
+        ensures says { outcome result ≡ verdict self.old.table (link a b) }
+        ensures smallest { Smallest (rows self.old.table (link a b)) (outcome result) }
+        ensures leaves { self.new.table ≡ after self.old.table (link a b) }
         ensures means { Linking self.old.table self.new.table a b (outcome result) }
     {
         self.known(b)?;
@@ -65,7 +72,9 @@ impl Sheet {
 
     // Takes that direct link away; any other path from a to b stays.
     pub fn cut(&mut self, a: u8, b: u8) -> Result<(), Refusal>
-        ensures called { Called self.old.table self.new.table (cut a b) (outcome result) }
+        ensures says { outcome result ≡ verdict self.old.table (cut a b) }
+        ensures smallest { Smallest (rows self.old.table (cut a b)) (outcome result) }
+        ensures leaves { self.new.table ≡ after self.old.table (cut a b) }
         ensures means { Cutting self.old.table self.new.table a b }
     {
         if !self.linked(a, b)? {
@@ -77,7 +86,9 @@ impl Sheet {
 
     // Marks a plain or hard task as hard, to end by the deadline.
     pub fn hard(&mut self, t: u8, deadline: u32) -> Result<(), Refusal>
-        ensures { Called self.old.table self.new.table (hard t deadline) (outcome result) }
+        ensures says { outcome result ≡ verdict self.old.table (hard t deadline) }
+        ensures smallest { Smallest (rows self.old.table (hard t deadline)) (outcome result) }
+        ensures leaves { self.new.table ≡ after self.old.table (hard t deadline) }
     {
         self.known(t)?;
         if deadline == 0 || deadline > LAST_DEADLINE {
@@ -92,7 +103,9 @@ impl Sheet {
 
     // Marks a plain or soft task as soft.
     pub fn soft(&mut self, t: u8) -> Result<(), Refusal>
-        ensures { Called self.old.table self.new.table (soft t) (outcome result) }
+        ensures says { outcome result ≡ verdict self.old.table (soft t) }
+        ensures smallest { Smallest (rows self.old.table (soft t)) (outcome result) }
+        ensures leaves { self.new.table ≡ after self.old.table (soft t) }
     {
         self.known(t)?;
         if let Kind::Hard(_) = self.table.tasks[t as usize].kind {
@@ -104,7 +117,9 @@ impl Sheet {
 
     // Takes the mark off.
     pub fn plain(&mut self, t: u8) -> Result<(), Refusal>
-        ensures { Called self.old.table self.new.table (plain t) (outcome result) }
+        ensures says { outcome result ≡ verdict self.old.table (plain t) }
+        ensures smallest { Smallest (rows self.old.table (plain t)) (outcome result) }
+        ensures leaves { self.new.table ≡ after self.old.table (plain t) }
     {
         self.known(t)?;
         self.table.mark(t, Kind::Plain);

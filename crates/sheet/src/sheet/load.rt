@@ -1,7 +1,7 @@
 // How long tasks take together.
 ghost use Rattle.std.specs.Prelude.{◌≡◌};
-ghost use Rattle.common.specs.Sets.{has};
-ghost use Rattle.sheet.specs.Tables.{expected_of, load_of, maximum_of};
+ghost use Rattle.common.specs.Sets.{has, sum_where};
+ghost use Rattle.sheet.specs.Tables.{expected_of, load_of, maximum_of, task_of};
 
 use crate::sheet::Sheet;
 use common::{Expected, Maximum, TaskSet};
@@ -13,9 +13,17 @@ pub struct Load {
 }
 
 impl Sheet {
+    // How long the tasks of the set take together at most.
+    pub fn load(&self, set: TaskSet) -> Maximum
+        ensures { result.0 ≡
+            sum_where (has set.0) (λ t. maximum_of (task_of self.now.table t)) self.now.table.len }
+    {
+        self.loads(set).maximum
+    }
+
     // How long the tasks of the set take together, as expected and at most.
     #[tactic(auto, unfolding(crate::specs::Tables::expected_of, crate::specs::Tables::maximum_of))]
-    pub fn load(&self, set: TaskSet) -> Load
+    pub fn loads(&self, set: TaskSet) -> Load
         ensures expected { result.expected.0 ≡ load_of expected_of self.now.table (has set.0) }
         ensures maximum { result.maximum.0 ≡ load_of maximum_of self.now.table (has set.0) }
     {

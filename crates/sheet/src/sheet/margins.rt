@@ -26,14 +26,13 @@ impl Sheet {
     }
 
     // What is left of the deadline of a task of the kind; absent where it isn't hard.
-    #[tactic(auto, using(crate::proofs::Margins::demand_is))]
     fn margin_for(&self, kind: Kind) -> Option<Margin>
         ensures { result ≡ margin_for self.now.table kind }
     {
         let Kind::Hard(deadline) = kind else {
             return None;
         };
-        Some(self.load(self.needed(deadline)).maximum.margin(deadline))
+        Some(self.load(self.needed(deadline)).margin(deadline))
     }
 
     // What is left of the deadline of task t; absent where the task isn't hard.

@@ -1,7 +1,7 @@
 use Rattle.std.proofs.Common.{◌≡◌, ◌*◌, ◌≤◌}
 use Rattle.common.specs.Sets.{has, sum_where}
 use Rattle.sheet.specs.Tables.{expected_of, maximum_of, task_of}
-use Rattle.sheet.proofs.sheet.Sheet.load.Given as goal
+use Rattle.sheet.proofs.sheet.Sheet.loads.Given as goal
 
 -- the two sums so far, which stay small
 abbrev pub invariant-loop-t : goal.invariant-loop-t
