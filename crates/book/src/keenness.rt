@@ -19,7 +19,7 @@ fn keenness<B: Book>(sheet: &Sheet, book: &B, t: u8) -> Option<Fraction>
     let Ok(above) = sheet.up_set(t) else {
         return None;
     };
-    Fraction::new(book.worth(t, Expected(0)), sheet.load(above).expected.0)
+    Fraction::new(book.worth(t, Expected(0)), sheet.loads(above).expected.0)
 }
 
 // The keenness of each task.

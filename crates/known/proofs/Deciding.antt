@@ -1,15 +1,11 @@
 -- The tests of the worked list decide what the sheet's definitions say. Assumes nothing.
-use Rattle.std.proofs.Common.{◌≡◌, refl, sym, ap, subst, subst₂, ◌∙◌, Bool, true, false, not, ◌&&◌, ⊎_elim, ℕ, ◌*◌, ◌<◌, arith, leb, ltb, pos, ◌≤ℤ◌, ◌<ℤ◌, true≢false, Option, Some, None}
+use Rattle.std.proofs.Common.{◌≡◌, refl, sym, ap, subst, subst₂, ◌∙◌, Bool, true, false, not, ⊎_elim, ℕ, ◌<◌, arith, pos, ◌≤ℤ◌, ◌<ℤ◌, true≢false, Option, Some, None}
 use Rattle.std.proofs.lemmas.Bool.{both_ways, cases_Bool, cases_lt, and_parts, and_from, not-true, not-false, not_from_false, false≢true}
-use Rattle.std.proofs.lemmas.Grind.{common_steps}
 use Rattle.std.proofs.lemmas.Int.{ints}
-use Rattle.book.proofs.Efforts.{effort-pos, not-soft}
-use Rattle.book.specs.Keenest.{Keenest, effort, soft}
-use Rattle.book.specs.Worths.{Meaning}
 use Rattle.common.proofs.Sets.{any-true, any-from}
 use Rattle.common.specs.Sets.{any}
 use Rattle.common.specs.declared.ticks.Margin.{Margin}
-use Rattle.known.specs.Worked.{Tests, all_met, is_absent, is_keenest, is_tightest, none_hard, none_soft, smaller}
+use Rattle.known.specs.Worked.{Tests, all_met, is_absent, is_tightest, none_hard, smaller}
 use Rattle.sheet.proofs.Margins.{no-margin}
 use Rattle.sheet.proofs.Rules.{Sound}
 use Rattle.sheet.specs.Margins.{margin_of, Fits, Tightest}
@@ -89,49 +85,10 @@ module _ (t : Table) (r : Sound t) where
   none-from : ((k : ℕ) → margin_of t k ≡ None) → none_hard t ≡ true
   none-from f = none-any t.len (λ v. not (is_absent (margin_of t v))) (λ k lt h. let m = present (margin_of t k) h in some-not-none m.0 (sym m.1 ∙ f k))
 
-  -- ---- soft tasks
-
-  soft-within : (k : ℕ) → soft t k ≡ true → k < t.len
-  soft-within k e = ⊎_elim (λ lt. lt) (λ ge. absurd (both_ways _ (not-soft t r k ge) e)) (cases_lt k t.len)
-
-  module _ (m : Meaning) (k : ℕ) where
-    keener : ℕ → Bool
-    keener u = soft t u && ltb (m k 0 * effort t u) (m u 0 * effort t k)
-
-    as-keen : ℕ → Bool
-    as-keen u = soft t u && leb (m k 0 * effort t u) (m u 0 * effort t k)
-
-    keenest-to : is_keenest m t k ≡ true → Keenest m t k
-    unfolding keener as-keen
-    keenest-to e =
-        let a = and_parts _ _ e in
-        let b = and_parts _ _ a.1 in
-        record {
-          is_soft = a.0;
-          some = λ u s. effort-pos t r u (soft-within u s);
-          best = λ u s. let h = any-none t.len keener b.0 u (soft-within u s) in grind (arith, common_steps);
-          lowest = λ u lt s. let h = any-none k as-keen b.1 u lt in grind (arith, common_steps);
-        }
-
-    keenest-from : Keenest m t k → is_keenest m t k ≡ true
-    unfolding keener as-keen
-    keenest-from p =
-        and_from _ _ p.is_soft (and_from _ _
-        (none-any t.len keener (λ u lt h. let s = and_parts _ _ h in let b = p.best u s.0 in absurd (grind (arith, common_steps))))
-        (none-any k as-keen (λ u lt h. let s = and_parts _ _ h in let b = p.lowest u lt s.0 in absurd (grind (arith, common_steps)))))
-
-  unsoft-to : none_soft t ≡ true → (k : ℕ) → soft t k ≡ false
-  unsoft-to e k = ⊎_elim (λ lt. any-none t.len (soft t) e k lt) (not-soft t r k) (cases_lt k t.len)
-
-  unsoft-from : ((k : ℕ) → soft t k ≡ false) → none_soft t ≡ true
-  unsoft-from f = none-any t.len (soft t) (λ k lt h. both_ways _ (f k) h)
-
   pub tests-stand : Tests t
   tests-stand =
       record {
         fits = (fits-to, fits-from);
         tightest = λ k. (tightest-to k, tightest-from k);
         none = (none-to, none-from);
-        keenest = λ m k. (keenest-to m k, keenest-from m k);
-        unsoft = (unsoft-to, unsoft-from);
       }

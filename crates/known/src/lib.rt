@@ -1,8 +1,7 @@
 // The worked sheets as one list: the contract computes the definitions over it, and the tests run it through the code.
 #![tactic(auto)]
 
-ghost use Rattle.std.specs.Prelude.{true, ◌≡◌};
-ghost use Rattle.book.specs.Standard.{nothing};
+ghost use Rattle.std.specs.Prelude.{◌≡◌, true};
 ghost use Rattle.known.specs.Worked.{all_right, Tests};
 ghost use Rattle.sheet.specs.Tables.{empty};
 
@@ -13,14 +12,16 @@ pub mod step;
 #[cfg(test)]
 mod tests;
 
-// What the list asks of fits, tightest and keenest is what these words mean, of every sheet and every book.
-pub fn tests_stand(sheet: &Sheet)
+// What the list asks of fits and tightest is what these words mean, of every sheet.
+pub fn tests_stand(sheet: &Sheet) -> u8
     ensures { Tests sheet.now.table }
-{}
+{
+    0
+}
 
 // Each step has its answer by the definitions, one after another.
-pub fn worked() -> [Step; 172]
-    ensures { all_right empty nothing result ≡ true }
+pub fn worked() -> [Step; 90]
+    ensures { all_right empty result ≡ true }
 {
     [
         // The bounds of durations and deadlines; the midpoint is rounded down.
@@ -59,7 +60,6 @@ pub fn worked() -> [Step; 172]
         Step::Margin(1, -1),
         Step::Fits(false),
         Step::Tightest(1),
-        Step::NoKeenest,
         // A circle is refused until it is cut; a link that is there is accepted.
         Step::New,
         Step::Task(1, 1, 0),
@@ -121,93 +121,5 @@ pub fn worked() -> [Step; 172]
         Step::Margin(3, 15),
         Step::Expected(3, 6),
         Step::Tightest(3),
-        // Of 18 and 12 over 10 ticks each, the greater is the keener; of equals the lower number, at no worth too.
-        Step::Keenest(1),
-        Step::Ramp(2, 12, 21, 24, 0),
-        Step::Keenest(2),
-        Step::Ramp(1, 18, 9, 27, 0),
-        Step::Keenest(1),
-        Step::Ramp(1, 12, 9, 27, 0),
-        Step::Keenest(1),
-        // A smaller worth over fewer ticks: 7 over 2 against 30 over 10.
-        Step::New,
-        Step::Task(10, 10, 0),
-        Step::Task(2, 2, 0),
-        Step::Soft(0, 0),
-        Step::Soft(1, 0),
-        Step::Ramp(0, 30, 5, 20, 0),
-        Step::AddStep(1, 0, 7, 0),
-        Step::Keenest(1),
-        Step::Weight(0, 2, 0),
-        Step::Keenest(0),
-        // A ramp is worth its peak up to the knee, then falls, rounded down, to 0 at the foot.
-        Step::New,
-        Step::Ramp(0, 12, 7, 10, 0),
-        Step::Worth(0, 0, 12),
-        Step::Worth(0, 7, 12),
-        Step::Worth(0, 8, 8),
-        Step::Worth(0, 9, 4),
-        Step::Worth(0, 10, 0),
-        Step::Worth(1, 0, 0),
-        Step::Worth(16, 0, 0),
-        // The bounds of its numbers; what is refused changes nothing, and a new ramp replaces the old.
-        Step::Ramp(0, 12, 10, 10, 8),
-        Step::Ramp(0, 1000001, 7, 10, 8),
-        Step::Ramp(0, 12, 7, 1048576, 8),
-        Step::Ramp(16, 12, 10, 10, 1),
-        Step::Worth(0, 8, 8),
-        Step::Ramp(0, 1000000, 0, 1048575, 0),
-        Step::Worth(0, 1, 999999),
-        Step::Worth(0, 1048574, 0),
-        Step::Worth(0, 4294967295, 0),
-        // A step is worth its worth up to and including its time.
-        Step::New,
-        Step::AddStep(0, 5, 9, 0),
-        Step::AddStep(0, 8, 4, 0),
-        Step::Worth(0, 5, 9),
-        Step::Worth(0, 6, 4),
-        Step::Worth(0, 8, 4),
-        Step::Worth(0, 9, 0),
-        // A further one must reach further and be worth no more; a seventh is refused, unless it breaks the rule too.
-        Step::AddStep(0, 8, 2, 8),
-        Step::AddStep(0, 9, 5, 8),
-        Step::AddStep(0, 1048576, 4, 8),
-        Step::AddStep(0, 9, 4, 0),
-        Step::Worth(0, 9, 4),
-        Step::AddStep(0, 10, 3, 0),
-        Step::AddStep(0, 11, 3, 0),
-        Step::AddStep(0, 1048575, 0, 0),
-        Step::AddStep(0, 1048575, 0, 8),
-        Step::DropSteps(16, 1),
-        Step::AddStep(16, 0, 0, 1),
-        Step::Worth(0, 11, 3),
-        Step::DropSteps(0, 0),
-        Step::Worth(0, 5, 0),
-        Step::AddStep(0, 0, 1000001, 8),
-        Step::AddStep(0, 0, 1000000, 0),
-        Step::AddStep(0, 1, 6, 0),
-        Step::AddStep(0, 2, 5, 0),
-        Step::AddStep(0, 3, 4, 0),
-        Step::AddStep(0, 4, 3, 0),
-        Step::AddStep(0, 5, 2, 0),
-        Step::AddStep(0, 6, 1, 9),
-        Step::AddStep(0, 6, 3, 8),
-        Step::Worth(0, 6, 0),
-        // A weight multiplies what was rounded; sums and products stop at the top.
-        Step::New,
-        Step::Ramp(0, 10, 0, 3, 0),
-        Step::Weight(0, 3, 0),
-        Step::Worth(0, 1, 18),
-        Step::Weight(0, 0, 8),
-        Step::Weight(0, 17, 8),
-        Step::Weight(16, 1, 1),
-        Step::Weight(0, 16, 0),
-        Step::Worth(0, 1, 96),
-        Step::AddStep(0, 1, 62494, 0),
-        Step::Worth(0, 1, 1000000),
-        Step::Weight(0, 1, 0),
-        Step::Worth(0, 1, 62500),
-        Step::Ramp(0, 1000000, 0, 3, 0),
-        Step::Worth(0, 0, 1000000),
     ]
 }

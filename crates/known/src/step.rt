@@ -1,8 +1,7 @@
-// A call or a question on a sheet and a standard book, and last the answer that it must have: of a call 0, or the number of its
-// refusal.
+// A call or a question on a sheet, and last the answer that it must have: of a call 0, or the number of its refusal.
 #[derive(Clone, Copy)]
 pub enum Step {
-    // A new sheet and a new book, on which the next steps are made.
+    // A new sheet, on which the next steps are made.
     New,
     Task(u32, u32, u8),
     Time(u8, u32, u32, u8),
@@ -11,10 +10,6 @@ pub enum Step {
     Hard(u8, u32, u8),
     Soft(u8, u8),
     Plain(u8, u8),
-    Ramp(u8, u32, u32, u32, u8),
-    AddStep(u8, u32, u32, u8),
-    DropSteps(u8, u8),
-    Weight(u8, u32, u8),
     // Whether the link from the first to the second is there.
     Linked(u8, u8, bool),
     Expected(u8, u32),
@@ -26,9 +21,4 @@ pub enum Step {
     Tightest(u8),
     // No task is hard, so none is the tightest.
     NoTightest,
-    // What the task is worth at the time.
-    Worth(u8, u32, u32),
-    Keenest(u8),
-    // No task is soft, so none is the keenest.
-    NoKeenest,
 }

@@ -1,8 +1,7 @@
 // The worked sheets, run through the code.
 use crate::step::Step;
 use crate::worked;
-use book::{Book, StandardBook, keenest};
-use common::{Expected, Refusal};
+use common::Refusal;
 use sheet::Sheet;
 
 fn number<T: Drop>(answer: Result<T, Refusal>) -> u8 {
@@ -13,11 +12,10 @@ fn number<T: Drop>(answer: Result<T, Refusal>) -> u8 {
 }
 
 // Makes the step, and says whether it has its answer.
-fn right(sheet: &mut Sheet, book: &mut StandardBook, step: Step) -> bool {
+fn right(sheet: &mut Sheet, step: Step) -> bool {
     match step {
         Step::New => {
             *sheet = Sheet::new();
-            *book = StandardBook::new();
             true
         }
         Step::Task(min, max, says) => number(sheet.task(min, max)) == says,
@@ -27,10 +25,6 @@ fn right(sheet: &mut Sheet, book: &mut StandardBook, step: Step) -> bool {
         Step::Hard(t, deadline, says) => number(sheet.hard(t, deadline)) == says,
         Step::Soft(t, says) => number(sheet.soft(t)) == says,
         Step::Plain(t, says) => number(sheet.plain(t)) == says,
-        Step::Ramp(t, peak, knee, foot, says) => number(book.ramp(t, peak, knee, foot)) == says,
-        Step::AddStep(t, until, worth, says) => number(book.step(t, until, worth)) == says,
-        Step::DropSteps(t, says) => number(book.drop_steps(t)) == says,
-        Step::Weight(t, weight, says) => number(book.weight(t, weight)) == says,
         Step::Linked(a, b, yes) => matches!(sheet.linked(a, b), Ok(there) if there == yes),
         Step::Expected(t, ticks) => matches!(sheet.get(t), Ok(task) if task.expected().0 == ticks),
         Step::Above(t, u, yes) => matches!(sheet.up_set(t), Ok(set) if set.contains(u) == yes),
@@ -39,18 +33,14 @@ fn right(sheet: &mut Sheet, book: &mut StandardBook, step: Step) -> bool {
         Step::Fits(yes) => sheet.fits() == yes,
         Step::Tightest(t) => matches!(sheet.tightest(), Some(least) if least == t),
         Step::NoTightest => matches!(sheet.tightest(), None),
-        Step::Worth(t, at, worth) => book.worth(t, Expected(at)) == worth,
-        Step::Keenest(t) => matches!(keenest(sheet, book), Some(best) if best == t),
-        Step::NoKeenest => matches!(keenest(sheet, book), None),
     }
 }
 
 #[test]
 fn the_worked_sheets(rt: HostRuntime) {
     let mut sheet = Sheet::new();
-    let mut book = StandardBook::new();
     for step in worked() {
-        assert!(rt; right(&mut sheet, &mut book, step));
+        assert!(rt; right(&mut sheet, step));
     }
 }
 
@@ -75,17 +65,4 @@ fn a_complete_graph_of_sixteen_tasks(rt: HostRuntime) {
             && matches!(sheet.margin(15), Ok(Some(margin)) if margin.0 == 4)
     );
     assert!(rt; sheet != before);
-}
-
-#[test]
-fn equal_books_are_equal_values(rt: HostRuntime) {
-    let mut book = StandardBook::new();
-    assert!(rt; book.step(3, 9, 1).is_ok() && book.ramp(3, 10, 0, 5).is_ok());
-    let before = book;
-    assert!(rt; book.ramp(3, 10, 5, 5).is_err());
-    assert!(rt; book == before);
-    assert!(rt; book.step(3, 12, 1).is_ok());
-    assert!(rt; book != before);
-    assert!(rt; book.drop_steps(3).is_ok() && book.step(3, 9, 1).is_ok());
-    assert!(rt; book == before);
 }

@@ -8,9 +8,6 @@ pub enum Step {
     Cut(u8, u8),
     Hard(u8, u32),
     Soft(u8),
-    Ramp(u8, u32, u32, u32),
-    AddStep(u8, u32, u32),
-    Weight(u8, u32),
 }
 
 pub const NAMES: [&str; 6] = [
@@ -22,8 +19,8 @@ pub const NAMES: [&str; 6] = [
     "reply on bus",
 ];
 
-// The output is blanked before the attenuator and the level change, and unblanked after both. The panel should follow soon.
-pub const RF_GROUP: [Step; 15] = [
+// The output is blanked before the attenuator and the level change, and unblanked after both.
+pub const RF_GROUP: [Step; 14] = [
     Step::Task(20, 40),
     Step::Task(150, 400),
     Step::Task(60, 90),
@@ -38,20 +35,15 @@ pub const RF_GROUP: [Step; 15] = [
     Step::Hard(0, 60),
     Step::Hard(3, 600),
     Step::Soft(4),
-    Step::Ramp(4, 600, 400, 1400),
 ];
 
-// The reply waits for the level, and the panel no longer for the output. The reply is worth most before the bus polls again.
-pub const BUS_GROUP: [Step; 9] = [
+// The reply waits for the level, and the panel no longer for the output.
+pub const BUS_GROUP: [Step; 5] = [
     Step::Task(80, 121),
     Step::Link(2, 5),
     Step::Cut(3, 4),
     Step::Link(5, 0),
     Step::Soft(5),
-    Step::AddStep(5, 450, 300),
-    Step::AddStep(5, 700, 200),
-    Step::AddStep(5, 600, 100),
-    Step::Weight(5, 2),
 ];
 
 impl fmt::Display for Step {
@@ -62,9 +54,6 @@ impl fmt::Display for Step {
             Step::Cut(a, b) => write!(f, "cut {a} {b}"),
             Step::Hard(t, deadline) => write!(f, "hard {t} {deadline}"),
             Step::Soft(t) => write!(f, "soft {t}"),
-            Step::Ramp(t, peak, knee, foot) => write!(f, "ramp {t} {peak} {knee} {foot}"),
-            Step::AddStep(t, until, worth) => write!(f, "step {t} {until} {worth}"),
-            Step::Weight(t, weight) => write!(f, "weight {t} {weight}"),
         }
     }
 }

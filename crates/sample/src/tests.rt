@@ -32,3 +32,16 @@ fn a_new_kind_has_a_keenest_task(rt: HostRuntime) {
     assert!(rt; sheet.cut(1, 2).is_ok());
     assert!(rt; keenest(&sheet, &FlatBook::new(7, 2)) == Some(2));
 }
+
+#[test]
+fn equal_books_are_equal_values(rt: HostRuntime) {
+    let mut book = StandardBook::new();
+    assert!(rt; book.step(3, 9, 1).is_ok() && book.ramp(3, 10, 0, 5).is_ok());
+    let before = book;
+    assert!(rt; book.ramp(3, 10, 5, 5).is_err());
+    assert!(rt; book == before);
+    assert!(rt; book.step(3, 12, 1).is_ok());
+    assert!(rt; book != before);
+    assert!(rt; book.drop_steps(3).is_ok() && book.step(3, 9, 1).is_ok());
+    assert!(rt; book == before);
+}

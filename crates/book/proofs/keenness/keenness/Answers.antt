@@ -14,4 +14,4 @@ returns g c =
     let got = c.in-Ok.ensures.says in
     let lt : k < s.table.len = grind (arith, common_steps) in
     let is : soft s.table k ≡ true = ap (λ (x : Task). is_soft x.kind) (sym c.in-Ok.ensures.gives) ∙ ap is_soft c.in-Soft.is in
-    keenness-is s.table (sound-of s) (g.B.Book.meaning c.args.book.now) k _ _ _ c.new.result lt is c.worth.ensures c.load.ensures.expected c.in-Ok-up_set.ensures.gives c.new.ensures
+    keenness-is s.table (sound-of s) (g.B.Book.meaning c.args.book.now) k _ _ _ c.new.result lt is c.worth.ensures c.loads.ensures.expected c.in-Ok-up_set.ensures.gives c.new.ensures
