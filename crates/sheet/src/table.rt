@@ -51,7 +51,7 @@ impl Task {
     #[tactic(auto, unfolding(crate::specs::Tables::expected_of))]
     pub fn expected(&self) -> Expected
         ensures value { result.0 ≡ expected_of self.now }
-        ensures midpoint { 2 * result.0 ≤ self.now.min + self.now.max × self.now.min + self.now.max < 2 * result.0 + 2 }
+        ensures midpoint { (2 * result.0 ≤ self.now.min + self.now.max) × (self.now.min + self.now.max < 2 * result.0 + 2) }
     {
         Expected((self.min as u32 + self.max as u32) / 2)
     }
@@ -112,7 +112,7 @@ impl Table {
     }
 
     pub fn tie(&mut self, a: u8, b: u8)
-        requires { a < 16 × b < 16 }
+        requires { (a < 16) × (b < 16) }
         ensures { self.new ≡ changed self.old (link a b) }
     {
         let before = self.tasks[b as usize].before;
@@ -120,7 +120,7 @@ impl Table {
     }
 
     pub fn untie(&mut self, a: u8, b: u8)
-        requires { a < 16 × b < 16 }
+        requires { (a < 16) × (b < 16) }
         ensures { self.new ≡ changed self.old (cut a b) }
     {
         let before = self.tasks[b as usize].before;

@@ -1,5 +1,5 @@
 // What a sheet holds.
-ghost use Rattle.std.specs.Prelude.{◌≡◌, if◌then◌else◌, ◌||◌, ◌<◌, IfOk};
+ghost use Rattle.std.specs.Prelude.{◌≡◌, if◌then◌else◌, ◌||◌, ◌<◌, IfOk, OnOk};
 ghost use Rattle.common.specs.Refusals.{outcome};
 ghost use Rattle.sheet.specs.Calls.{unknown};
 ghost use Rattle.sheet.specs.Links.{linked};
@@ -20,7 +20,7 @@ impl Sheet {
     // Refuses a number that no task has.
     pub(super) fn known(&self, t: u8) -> Result<(), Refusal>
         ensures says { outcome result ≡ (if unknown self.now.table t then 1 else 0) }
-        ensures below { IfOk result (λ _. t < self.now.table.len) }
+        ensures below { OnOk result (t < self.now.table.len) }
     {
         if t >= self.table.len {
             return Err(Refusal::UnknownTask);
