@@ -2,9 +2,9 @@
 """Brings the definitions of crates/*/specs to snake case, wherever they are cited: is-soft becomes is_soft.
 
 Lemmas keep their names: a dash there stands between a call and its argument, as in has-zero.
-Run once, at the top of the repository. It stops where two names would fall together.
+Run once, at the top of the repository. It says where a new name stands already.
 """
-import glob, re, sys
+import glob, re
 
 DECLARED = re.compile(r"^(?:  )?(?:(?:pub|abbrev|unfoldable|data|record) )+([A-Za-z][\w'-]*)(?= [:({]|:)", re.M)
 CONSTRUCTOR = re.compile(r"^  ([a-z][\w'-]*) :", re.M)

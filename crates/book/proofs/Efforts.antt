@@ -39,9 +39,6 @@ module _ (m : Meaning) (t : Table) (fs : List (Option Fraction)) (each : (k : �
   absent : (k : ℕ) → get_or fs k None ≡ None → soft t k ≡ false
   absent k e = subst (Keenness m t k) e (each k)
 
-  pub none_soft : ((k : ℕ) → get_or fs k None ≡ None) → (k : ℕ) → soft t k ≡ false
-  none_soft all k = absent k (all k)
-
   present : (k : ℕ) → soft t k ≡ true → (x : Fraction) × (get_or fs k None ≡ Some x)
   present k s = found (get_or fs k None) (each k)
     where

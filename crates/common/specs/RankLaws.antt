@@ -1,4 +1,4 @@
--- The laws of ranks, which each impl of `Rank` shows. No contract cites them. Assumes nothing.
+-- Laws of ranks that the impls of `Rank` show: of optional ranks, and of fractions. No contract cites them. Assumes nothing.
 use Rattle.std.proofs.Common.{◌≡◌, refl, Bool, true, false, Option, Some, None, ℕ, ◌*◌, ◌≤◌, ◌<◌, mul_comm, mul_assoc, mul-le-mul_right, le_of_mul-le-mul_right, arith, le-ltb, ltb-false, nat_lt}
 use Rattle.std.proofs.lemmas.Bool.{false≢true, true≢false}
 use Rattle.common.specs.Ranks.{or_absent}

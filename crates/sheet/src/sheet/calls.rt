@@ -1,5 +1,5 @@
 // The calls that change a sheet.
-ghost use Rattle.std.specs.Prelude.{◌≡◌, IfErr, IfOk, IsFalse, IsTrue};
+ghost use Rattle.std.specs.Prelude.{◌≡◌, IfErr, IfOk, IsFalse, IsTrue, if◌then◌else◌, not};
 ghost use Rattle.common.specs.Refusals.{Smallest, outcome};
 ghost use Rattle.sheet.specs.Calls.{after, lasts, rows, verdict};
 ghost use Rattle.sheet.specs.Calls.{task, time, link, cut, hard, soft, plain};
@@ -15,7 +15,9 @@ const LAST_DEADLINE: u32 = 1048575;
 
 // The durations of a task, where they keep their rule.
 fn durations(min: u32, max: u32) -> Result<(u16, u16), Refusal>
-    ensures gives { IfOk result (λ d. IsTrue (lasts min max) × (d.0 ≡ min) × (d.1 ≡ max)) }
+    ensures says { outcome result ≡ (if not (lasts min max) then 3 else 0) }
+    ensures gives { IfOk result (λ d. (d.0 ≡ min) × (d.1 ≡ max)) }
+    ensures fits { IfOk result (λ _. IsTrue (lasts min max)) }
     ensures refuses { IfErr result (λ e. IsFalse (lasts min max) × (e ≡ Refusal.Durations)) }
 {
     if 1 <= min && min <= max && max <= LONGEST {
@@ -30,8 +32,8 @@ impl Sheet {
     pub fn task(&mut self, min: u32, max: u32) -> Result<u8, Refusal>
         ensures says { outcome result ≡ verdict self.old.table (task min max) }
         ensures smallest { Smallest (rows self.old.table (task min max)) (outcome result) }
-        ensures leaves { self.new.table ≡ after self.old.table (task min max) }
         ensures gives { IfOk result (λ k. k ≡ self.old.table.len) }
+        ensures leaves { self.new.table ≡ after self.old.table (task min max) }
     {
         let t = self.table.len;
         if t >= MOST {
