@@ -36,9 +36,6 @@ module _ (m : Meaning) (t : Table) (fs : List (Option Fraction)) (each : (k : �
   there : (k : ℕ) (x : Fraction) → get_or fs k None ≡ Some x → (soft t k ≡ true) × (x.num ≡ m k 0) × (x.den ≡ effort t k)
   there k x e = subst (Keenness m t k) e (each k)
 
-  absent : (k : ℕ) → get_or fs k None ≡ None → soft t k ≡ false
-  absent k e = subst (Keenness m t k) e (each k)
-
   present : (k : ℕ) → soft t k ≡ true → (x : Fraction) × (get_or fs k None ≡ Some x)
   present k s = found (get_or fs k None) (each k)
     where

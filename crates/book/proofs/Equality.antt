@@ -45,14 +45,17 @@ same-books x y e f g =
 
 -- ---- what `==` computes decides equality
 
-ramps-decide : (x y : Ramp) → Decides (eqb x.peak y.peak && (eqb x.knee y.knee && eqb x.foot y.foot)) (x ≡ y)
+abbrev pub ramp_eq : Ramp → Ramp → Bool
+ramp_eq x y = eqb x.peak y.peak && (eqb x.knee y.knee && eqb x.foot y.foot)
+
+ramps-decide : (x y : Ramp) → Decides (ramp_eq x y) (x ≡ y)
 ramps-decide x y = (
   λ h.
       let peak : x.peak ≡ y.peak = grind (arith, common_steps) in
       let knee : x.knee ≡ y.knee = grind (arith, common_steps) in
       let foot : x.foot ≡ y.foot = grind (arith, common_steps) in
       λ i. record { peak = peak i; knee = knee i; foot = foot i },
-  λ e. subst (λ (z : Ramp). (eqb x.peak z.peak && (eqb x.knee z.knee && eqb x.foot z.foot)) ≡ true) e (grind (arith, common_steps)),
+  λ e. subst (λ (z : Ramp). ramp_eq x z ≡ true) e (grind (arith, common_steps)),
 )
 
 abbrev pub step_eq : Step → Step → Bool
@@ -88,7 +91,7 @@ options-decide E each (Some x) (Some y) = (λ h. ap Some ((each x y).0 h), λ e.
 
 abbrev pub books_eq : StandardBook → StandardBook → Bool
 books_eq x y =
-    (pointwise (option_eq (λ r s. eqb r.peak s.peak && (eqb r.knee s.knee && eqb r.foot s.foot))) (contents x).ramps (contents y).ramps && pointwise steps_eq (contents x).steps (contents y).steps) && pointwise eqb (contents x).weights (contents y).weights
+    (pointwise (option_eq ramp_eq) (contents x).ramps (contents y).ramps && pointwise steps_eq (contents x).steps (contents y).steps) && pointwise eqb (contents x).weights (contents y).weights
 
 pub books-decide : (x y : StandardBook) → Decides (books_eq x y) (x ≡ y)
 books-decide x y =

@@ -52,9 +52,6 @@ module _ (t : Table) (r : Sound t) where
   within : (k : ℕ) (m : Margin) → margin_of t k ≡ Some m → k < t.len
   within k m e = ⊎_elim (λ lt. lt) (λ ge. absurd (some-not-none m (sym e ∙ no-margin t r k ge))) (cases_lt k t.len)
 
-  zero-margin : Margin
-  zero-margin = record { 0 = pos 0 }
-
   fits-to : all_met t ≡ true → Fits t
   fits-to e k m h = not-less m (record { 0 = pos 0 }) (ap (λ o. smaller o (Some (record { 0 = pos 0 }))) (sym h) ∙ any-none t.len (λ u. smaller (margin_of t u) (Some (record { 0 = pos 0 }))) e k (within k m h))
 

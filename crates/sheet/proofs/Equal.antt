@@ -1,27 +1,14 @@
 -- Under the rules of a sheet the tables that are alike are the same value. Assumes nothing.
-use Rattle.std.proofs.Common.{List, ◌≡◌, sym, ap, ap₂, ◌∙◌, false, ⊎_elim, ℕ, ◌≤◌, ◌<◌, arith}
+use Rattle.std.proofs.Common.{◌≡◌, sym, ap, ◌∙◌, false, ⊎_elim, ℕ, ◌≤◌, ◌<◌, arith}
 use Rattle.std.proofs.lemmas.Bool.{cases_Bool, cases_lt}
 use Rattle.std.proofs.lemmas.List.{get_or_default, same_lists}
 use Rattle.common.proofs.Sets.{same-set}
 use Rattle.sheet.proofs.Rules.{Sound, plain-is}
+use Rattle.sheet.specs.EqualLaws.{same-tasks}
 use Rattle.sheet.specs.Links.{linked}
 use Rattle.sheet.specs.Rules.{Alike}
 use Rattle.sheet.specs.Tables.{blank, task_of}
-use Rattle.sheet.specs.declared.table.Kind.{Kind}
 use Rattle.sheet.specs.declared.table.Table.{Table}
-use Rattle.sheet.specs.declared.table.Task.{Task}
-
-row : ℕ → ℕ → Kind → ℕ → Task
-row min max kind s = record { min = min; max = max; kind = kind; before = record { 0 = s } }
-
-same-rows : (x y : Task) → x.min ≡ y.min → x.max ≡ y.max → x.kind ≡ y.kind → x.before.0 ≡ y.before.0 → x ≡ y
-unfolding row
-same-rows x y a b c d = λ i. row (a i) (b i) (c i) (d i)
-
-table : ℕ → List Task → Table
-table len tasks = record { len = len; tasks = tasks }
-
--- ---- alike tables
 
 module _ (s t : Table) (p : Sound s) (q : Sound t) where
   -- the direct predecessors are the same set, for none is at or above the count
@@ -33,17 +20,19 @@ module _ (s t : Table) (p : Sound s) (q : Sound t) where
       none-from v r u k ge = ⊎_elim (λ l. absurd (omega (arith, (r.known u k l).0))) (λ e. e) (cases_Bool (linked v u k))
 
   pub alike-same : Alike s t → s ≡ t
-  unfolding table
-  alike-same a = ap₂ table a.count (same_lists s.tasks t.tasks (p.whole ∙ sym q.whole)
-      (λ k d lt. get_or_default s.tasks k d blank lt ∙ at k ∙ get_or_default t.tasks k blank d (omega (arith, p.whole, q.whole))))
+  alike-same a = λ i. record { len = a.count i; tasks = rows i }
     where
       at : (k : ℕ) → task_of s k ≡ task_of t k
       at k =
           ⊎_elim
-          (λ lt. same-rows _ _ (a.least k lt) (a.most k lt) (a.kinds k lt) (same-before a k lt))
+          (λ lt. same-tasks _ _ (a.least k lt) (a.most k lt) (a.kinds k lt) (same-before a k lt))
           (λ ge. let x = p.clear k ge in let y = q.clear k (omega (arith, a.count)) in
-          same-rows _ _ (x.0 ∙ sym y.0) (x.1 ∙ sym y.1) (plain-is _ x.2 ∙ sym (plain-is _ y.2)) (x.3 ∙ sym y.3))
+          same-tasks _ _ (x.0 ∙ sym y.0) (x.1 ∙ sym y.1) (plain-is _ x.2 ∙ sym (plain-is _ y.2)) (x.3 ∙ sym y.3))
           (cases_lt k s.len)
+
+      rows : s.tasks ≡ t.tasks
+      rows = same_lists s.tasks t.tasks (p.whole ∙ sym q.whole)
+          (λ k d lt. get_or_default s.tasks k d blank lt ∙ at k ∙ get_or_default t.tasks k blank d (omega (arith, p.whole, q.whole)))
 
   pub same-alike : s ≡ t → Alike s t
   same-alike e =

@@ -52,7 +52,7 @@ kind-itself (Hard d) = eq-eqb d d refl
 pub kind-decides : (x y : Kind) → Decides (kind_eq x y) (x ≡ y)
 kind-decides x y = (kind-same x y, λ e. subst (λ z. kind_eq x z ≡ true) e (kind-itself x))
 
-same-tasks : (x y : Task) → x.min ≡ y.min → x.max ≡ y.max → x.kind ≡ y.kind → x.before.0 ≡ y.before.0 → x ≡ y
+pub same-tasks : (x y : Task) → x.min ≡ y.min → x.max ≡ y.max → x.kind ≡ y.kind → x.before.0 ≡ y.before.0 → x ≡ y
 same-tasks x y a b c d = λ i. record { min = a i; max = b i; kind = c i; before = record { 0 = d i } }
 
 task-same : (x y : Task) → task_eq x y ≡ true → x ≡ y
