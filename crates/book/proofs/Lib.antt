@@ -1,4 +1,3 @@
-pub mod Written
 pub mod Steps
-pub mod Equality
 pub mod Efforts
+pub mod Equality

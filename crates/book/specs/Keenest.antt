@@ -7,8 +7,7 @@ use Rattle.std.specs.Prelude.{Bool, true, false, ◌≡◌, ℕ, ◌*◌, ◌≤
 use Rattle.book.specs.Worths.{Meaning}
 use Rattle.common.specs.declared.fraction.Fraction.{Fraction}
 use Rattle.sheet.specs.Links.{up}
-use Rattle.sheet.specs.Tables.{expected_of, is_soft, load_of, task_of}
-use Rattle.sheet.specs.declared.table.Table.{Table}
+use Rattle.sheet.specs.Tables.{Table, expected_of, is_soft, load_of, task_of}
 
 abbrev pub soft : Table → ℕ → Bool
 soft t k = is_soft (task_of t k).kind

@@ -1,6 +1,7 @@
 pub mod Worths
 pub mod Ramps
 pub mod Steps
+pub mod StepLists
 pub mod Weights
 pub mod Standard
 pub mod RampLaws

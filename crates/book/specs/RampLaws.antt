@@ -1,15 +1,13 @@
 -- The laws of ramps: what they mean is sound. No contract cites them. Assumes nothing.
-use Rattle.std.proofs.Common.{◌≡◌, ap, subst, true, List, ℕ, ◌-◌, ◌*◌, ◌/◌, ◌≤◌, ◌<◌, mul-le-mul_left, mul_comm, div-mul-le_self, le-div_iff_mul-le, le_trans, arith, length, Option, Some, None}
+use Rattle.std.proofs.Common.{◌≡◌, ap, subst, true, ℕ, ◌-◌, ◌*◌, ◌/◌, ◌≤◌, ◌<◌, mul-le-mul_left, mul_comm, div-mul-le_self, le_trans, arith, Option, Some, None}
 use Rattle.std.proofs.Math.Nat.{div-le_of_le-mul}
 use Rattle.std.proofs.lemmas.Grind.{common_steps}
 use Rattle.std.proofs.lemmas.List.{get_or_past}
+use Rattle.std.proofs.lemmas.Nat.{le-div}
 use Rattle.book.specs.Ramps.{keeps_rule, ramp_meaning, ramp_of, ramp_worth, slope}
 use Rattle.book.specs.Worths.{top, Sound}
 use Rattle.book.specs.declared.ramp.Ramp.{Ramp}
-
--- a larger number has no smaller quotient
-quotients : (a b k : ℕ) → 0 < k → a ≤ b → a / k ≤ b / k
-quotients a b k pos h = (le-div_iff_mul-le pos).1 (le_trans (div-mul-le_self a k) h)
+use Rattle.book.specs.declared.ramp.RampBook.{RampBook}
 
 module _ (peak knee foot : ℕ) (down : knee < foot) where
   part-below : (at : ℕ) → knee < at → peak * (foot - at) / (foot - knee) ≤ peak
@@ -17,7 +15,7 @@ module _ (peak knee foot : ℕ) (down : knee < foot) where
       div-le_of_le-mul (foot - knee) (subst (λ n. peak * (foot - at) ≤ n) (mul_comm peak (foot - knee)) (mul-le-mul_left peak (omega arith)))
 
   part-falls : (a b : ℕ) → a ≤ b → peak * (foot - b) / (foot - knee) ≤ peak * (foot - a) / (foot - knee)
-  part-falls a b h = quotients (peak * (foot - b)) (peak * (foot - a)) (foot - knee) (omega arith) (mul-le-mul_left peak (omega arith))
+  part-falls a b h = le-div _ _ _ (omega arith) (le_trans (div-mul-le_self _ _) (mul-le-mul_left peak (omega arith)))
 
   slope-below : (at : ℕ) → slope peak knee foot at ≤ peak
   unfolding slope
@@ -29,23 +27,16 @@ module _ (peak knee foot : ℕ) (down : knee < foot) where
 
 ramp-low : (o : Option Ramp) (at : ℕ) → keeps_rule o ≡ true → ramp_worth o at ≤ top
 ramp-low None at ok = omega arith
-ramp-low (Some r) at ok =
-    let low : r.peak ≤ top = grind (arith, common_steps) in
-    let down : r.knee < r.foot = grind (arith, common_steps) in
-    omega (arith, slope-below r.peak r.knee r.foot down at)
+ramp-low (Some r) at ok = let below = slope-below r.peak r.knee r.foot in grind (arith, common_steps)
 
 ramp-falls : (o : Option Ramp) (a b : ℕ) → keeps_rule o ≡ true → a ≤ b → ramp_worth o b ≤ ramp_worth o a
 ramp-falls None a b ok h = omega arith
 ramp-falls (Some r) a b ok h = slope-falls r.peak r.knee r.foot (grind (arith, common_steps)) a b h
 
--- no ramp stands past the end
-pub no-ramp : (rs : List (Option Ramp)) (task at : ℕ) → length rs ≡ 16 → 16 ≤ task → ramp_meaning rs task at ≡ 0
-no-ramp rs task at whole h = ap (λ o. ramp_worth o at) (get_or_past rs task None (omega arith))
-
-pub ramps-sound : (rs : List (Option Ramp)) → length rs ≡ 16 → ((k : ℕ) → keeps_rule (ramp_of rs k) ≡ true) → Sound (ramp_meaning rs)
-ramps-sound rs whole ok =
+pub ramps-sound : (x : RampBook) → Sound (ramp_meaning x.ramps)
+ramps-sound x =
     record {
-      bounded = λ task at. ramp-low (ramp_of rs task) at (ok task);
-      falls = λ task a b. ramp-falls (ramp_of rs task) a b (ok task);
-      bare = λ task at h. no-ramp rs task at whole (omega arith);
+      bounded = λ task at. ramp-low (ramp_of x.ramps task) at (x.sound task);
+      falls = λ task a b. ramp-falls (ramp_of x.ramps task) a b (x.sound task);
+      bare = λ task at h. ap (λ o. ramp_worth o at) (get_or_past x.ramps task None (omega (arith, x.whole)));
     }

@@ -9,21 +9,22 @@
 --     Alike c d            each task has the same ramp, the same steps and the same weight
 use Rattle.std.specs.Prelude.{List, ◌≡◌, ℕ, ◌<◌, set, Option}
 use Rattle.book.specs.Ramps.{no_ramps, ramp_meaning, ramp_of, ramp_rows, ramped}
-use Rattle.book.specs.Steps.{drop_rows, no_steps, step_added, step_meaning, step_rows, steps_dropped, steps_of, used}
+use Rattle.book.specs.StepLists.{steps_in}
+use Rattle.book.specs.Steps.{drop_rows, no_steps, step_added, step_meaning, step_rows, steps_dropped, steps_of}
 use Rattle.book.specs.Weights.{all_one, weight_of, weight_rows}
 use Rattle.book.specs.Worths.{Meaning, added, weighed}
 use Rattle.book.specs.declared.ramp.Ramp.{Ramp}
 use Rattle.book.specs.declared.standard.StandardBook.{StandardBook}
-use Rattle.book.specs.declared.step.Steps.{Steps}
+use Rattle.book.specs.declared.step.Step.{Step}
 use Rattle.common.specs.Refusals.{Answered, Rows, first_fit, kept_unless}
 
 pub record Contents : Type 0 where
   pub ramps : List (Option Ramp)
-  pub steps : List Steps
+  pub steps : List (List Step)
   pub weights : List ℕ
 
 abbrev pub contents : StandardBook → Contents
-contents x = record { ramps = x.layers.inner.first.ramps; steps = x.layers.inner.second.steps; weights = x.layers.weights.list }
+contents x = record { ramps = x.layers.inner.first.ramps; steps = steps_in x.layers.inner.second; weights = x.layers.weights.list }
 
 -- no curves, and every weight 1
 abbrev pub nothing : Contents
@@ -62,5 +63,5 @@ Called c c' call n = Answered (rows c call) (changed c call) c c' n
 
 pub record Alike (c d : Contents) : Type 0 where
   pub ramps : (k : ℕ) → k < 16 → ramp_of c.ramps k ≡ ramp_of d.ramps k
-  pub steps : (k : ℕ) → k < 16 → used (steps_of c.steps k) ≡ used (steps_of d.steps k)
+  pub steps : (k : ℕ) → k < 16 → steps_of c.steps k ≡ steps_of d.steps k
   pub weights : (k : ℕ) → k < 16 → weight_of c.weights k ≡ weight_of d.weights k

@@ -18,7 +18,7 @@ weighed-sound {m} w p =
       bare = λ task at h. ap (λ x. min top (w task * x)) (p.bare task at h) ∙ ap (min top) (mul-zero (w task));
     }
 
-pub layered-sound : {m : Meaning} → Layered m → Sound m
-layered-sound (one p) = p
-layered-sound (sum p q) = added-sound (layered-sound p) (layered-sound q)
-layered-sound (weight w p) = weighed-sound w (layered-sound p)
+pub layered_sound : {m : Meaning} → Layered m → Sound m
+layered_sound (one p) = p
+layered_sound (sum p q) = added-sound (layered_sound p) (layered_sound q)
+layered_sound (weight w p) = weighed-sound w (layered_sound p)

@@ -14,6 +14,7 @@ pub fn kind_stands<B: Book>(book: &B)
 {}
 
 // Whatever is layered over sound books, in any way, is sound.
+#[tactic(auto, using(crate::specs::WorthLaws::layered_sound))]
 pub fn layers_stand()
     ensures { (m : Meaning) → Layered m → Sound m }
 {}
@@ -22,17 +23,18 @@ pub fn layers_stand()
 pub fn last_worth<B: Book>(book: &B, task: u8) -> u32
     ensures { result ≡ B.meaning book.now task (2 ^ 32 - 1) }
 {
-    book.worth(task, Expected(u32::MAX))
+    book.worth(task, Expected::of(u32::MAX))
 }
 
 // What the steepest product comes to: a peak of 1,000,000 times the 1,048,574 ticks left at time 1, which 64 bits hold, divided
 // by the 1,048,575 of the whole fall; and 0 at the last time of all.
+#[tactic(auto, unfolding(crate::specs::Ramps::slope))]
 pub fn widest_product() -> (u32, u32)
     ensures { (result.0 ≡ 999999) × (result.1 ≡ 0) }
 {
     let mut book = RampBook::new();
     let _ = book.ramp(0, TOP, 0, LATEST);
-    (book.worth(0, Expected(1)), last_worth(&book, 0))
+    (book.worth(0, Expected::of(1)), last_worth(&book, 0))
 }
 
 // Equal books are the same value, and have the same curves and weights.

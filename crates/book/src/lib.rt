@@ -5,6 +5,7 @@ mod book;
 mod keenness;
 mod laws;
 mod layers;
+mod place;
 mod ramp;
 mod standard;
 mod step;

@@ -2,11 +2,11 @@
 ghost use Rattle.std.specs.Prelude.{◌≡◌, true, ℕ, length};
 ghost use Rattle.book.specs.Ramps.{keeps_rule, no_ramps, ramp_meaning, ramp_of, ramp_rows};
 ghost use Rattle.book.specs.Ramps.{ramped, slope, sloped, Ramped};
-ghost use Rattle.book.specs.RampLaws.{ramps-sound};
 ghost use Rattle.common.specs.Refusals.{Answered, outcome};
 
 use crate::book::{Book, LATEST, TOP};
-use common::{Expected, MOST, Refusal};
+use crate::place::place;
+use common::{Expected, Refusal};
 
 // Worth the peak up to the knee, then less and less, and nothing from the foot on.
 #[derive(Clone, Copy, PartialEq, Eq)]
@@ -37,7 +37,9 @@ impl Ramp {
         if at.0 >= self.foot {
             return 0;
         }
-        (self.peak as u64 * (self.foot - at.0) as u64 / (self.foot - self.knee) as u64) as u32
+        let left = u64::from(self.foot - at.0);
+        let fall = u64::from(self.foot - self.knee);
+        (u64::from(self.peak) * left / fall) as u32
     }
 }
 
@@ -56,29 +58,26 @@ impl RampBook {
             self.old.ramps self.new.ramps (outcome result) }
         ensures means { Ramped self.old.ramps self.new.ramps t peak knee foot (outcome result) }
     {
-        if t >= MOST {
-            return Err(Refusal::UnknownTask);
-        }
+        let k = place(t)?;
         if peak > TOP || knee >= foot || foot > LATEST {
             return Err(Refusal::BookRule);
         }
-        self.ramps[t as usize] = Some(Ramp { peak, knee, foot });
+        self.ramps[k] = Some(Ramp { peak, knee, foot });
         Ok(())
     }
 }
 
 impl Book for RampBook {
+    ghost use Rattle.book.specs.RampLaws.{ramps-sound};
+
     ghost meaning = { λ x. ramp_meaning x.ramps };
 
-    ghost sound = { λ x. ramps-sound x.ramps x.whole x.sound };
+    ghost sound = { ramps-sound };
 
     fn worth(&self, task: u8, at: Expected) -> u32 {
-        if task >= MOST {
+        let Some(Some(ramp)) = self.ramps.get(usize::from(task)) else {
             return 0;
-        }
-        match &self.ramps[task as usize] {
-            Some(ramp) => ramp.at(at),
-            None => 0,
-        }
+        };
+        ramp.at(at)
     }
 }

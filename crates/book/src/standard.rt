@@ -3,8 +3,8 @@ ghost use Rattle.std.specs.Prelude.{◌≡◌};
 ghost use Rattle.book.specs.Standard.{Called, contents, drop_steps, nothing, ramp, step, weight, worth_of};
 ghost use Rattle.book.specs.RampLaws.{ramps-sound};
 ghost use Rattle.book.specs.StepLaws.{steps-sound};
-ghost use Rattle.book.specs.WorthLaws.{added-sound, weighed-sound};
 ghost use Rattle.book.specs.Weights.{weight_of};
+ghost use Rattle.book.specs.WorthLaws.{added-sound, weighed-sound};
 ghost use Rattle.common.specs.Refusals.{outcome};
 
 use crate::book::Book;
@@ -65,11 +65,8 @@ impl StandardBook {
 impl Book for StandardBook {
     ghost meaning = { λ x. worth_of (contents x) };
 
-    ghost sound = { λ x. let ramps = x.layers.inner.first in
-        let steps = x.layers.inner.second in
-        let curves = added-sound (ramps-sound ramps.ramps ramps.whole ramps.sound)
-        (steps-sound steps.steps steps.whole steps.sound) in
-        weighed-sound (weight_of x.layers.weights.list) curves };
+    ghost sound = { λ x. weighed-sound (weight_of x.layers.weights.list)
+        (added-sound (ramps-sound x.layers.inner.first) (steps-sound x.layers.inner.second)) };
 
     fn worth(&self, task: u8, at: Expected) -> u32 {
         self.layers.worth(task, at)

@@ -1,12 +1,12 @@
 // A book of steps.
-ghost use Rattle.std.specs.Prelude.{◌≡◌, true, [], ◌∷◌, ◌++◌, ℕ, ◌<◌, ◌≤◌, find, length, nat_le};
-ghost use Rattle.book.specs.Steps.{Clear, Dropped, StepsOk, Stepped, drop_rows, no_steps, pushed};
-ghost use Rattle.book.specs.Steps.{step_added, step_meaning, step_rows, stepped, steps_dropped, steps_of, steps_worth, used};
-ghost use Rattle.book.specs.StepLaws.{steps-sound};
+ghost use Rattle.std.specs.Prelude.{◌≡◌, true, [], ◌∷◌, ◌++◌, ℕ, ◌<◌, ◌≤◌, find, length, nat_le, ◌-◌, drop, replicate, take};
+ghost use Rattle.book.specs.Steps.{Dropped, Stepped, blank, drop_rows, no_steps};
+ghost use Rattle.book.specs.Steps.{step_added, step_meaning, step_rows, stepped, steps_dropped, steps_worth};
 ghost use Rattle.common.specs.Refusals.{Answered, outcome};
 
 use crate::book::{Book, LATEST, TOP};
-use common::{Expected, MOST, Refusal};
+use crate::place::place;
+use common::{Expected, Refusal};
 
 const MOST_STEPS: u8 = 6;
 
@@ -17,38 +17,47 @@ pub struct Step {
     worth: u32,
 }
 
-// The first `len` steps of the list; the others are blank.
+// At most six steps: the first `len` places hold them, and the others are blank. Each step reaches further than the one before,
+// and is worth no more. With a list on the heap, books were not `Copy`; with an `impl Model` here, a book that was passed by value
+// could not be used again.
 #[derive(Clone, Copy, PartialEq, Eq)]
 pub struct Steps {
     len: u8,
     list: [Step; 6],
+    ghost whole: { length list ≡ 6 },
+    ghost few: { len ≤ 6 },
+    ghost clear: { drop len list ≡ replicate (6 - len) blank },
+    ghost sound: { stepped (take len list) ≡ true },
 }
 
-// At most six steps for each task. Each reaches further than the one before, and is worth no more.
+// At most six steps for each task.
 #[derive(Clone, Copy, PartialEq, Eq)]
 pub struct StepBook {
     steps: [Steps; 16],
     ghost whole: { length steps ≡ 16 },
-    ghost sound: { (k : ℕ) → StepsOk (steps_of steps k) },
-    ghost clear: { (k : ℕ) → Clear (steps_of steps k) },
 }
 
 impl Steps {
-    const NONE: Steps = Steps {
-        len: 0,
-        list: [Step { until: 0, worth: 0 }; 6],
-    };
+    ghost use Rattle.book.specs.StepLists.{used};
+
+    #[tactic(auto, unfolding(crate::specs::Steps::stepped))]
+    fn new() -> Steps
+        ensures { used result ≡ [] }
+    {
+        Steps {
+            len: 0,
+            list: [Step { until: 0, worth: 0 }; 6],
+        }
+    }
 
     fn used(&self) -> &[Step]
-        requires { self.now.len ≤ 6 }
         ensures { result.now ≡ used self.now }
     {
-        &self.list[0..self.len as usize]
+        &self.list[0..usize::from(self.len)]
     }
 
     // The first step that reaches the time.
     fn reaching(&self, at: Expected) -> Option<Step>
-        requires { self.now.len ≤ 6 }
         ensures { result ≡ find (λ s. nat_le at.0 s.until) (used self.now) }
     {
         self.used().iter().copied().find(|step| at.0 <= step.until)
@@ -56,93 +65,95 @@ impl Steps {
 
     // The worth of the first step that reaches the time, and 0 after the last.
     fn at(&self, at: Expected) -> u32
-        requires { self.now.len ≤ 6 }
         ensures { result ≡ steps_worth (used self.now) at.0 }
     {
         self.reaching(at).map_or(0, |step| step.worth)
     }
 
     // Whether the steps keep their rule with this one at the end.
+    #[tactic(auto, using(crate::proofs::Steps::stepped_end))]
     fn takes(&self, step: Step) -> bool
-        requires { StepsOk self.now }
         ensures { result ≡ stepped (used self.now ++ step ∷ []) }
     {
-        if step.until > LATEST || step.worth > TOP {
-            return false;
-        }
-        let Some(last) = self.used().last() else {
-            return true;
-        };
-        last.until < step.until && step.worth <= last.worth
+        let last = self.used().last();
+        step.until <= LATEST
+            && step.worth <= TOP
+            && last.is_none_or(|last| last.until < step.until && step.worth <= last.worth)
+    }
+
+    fn is_full(&self) -> bool
+        ensures { result ≡ nat_le 6 (length (used self.now)) }
+    {
+        self.len >= MOST_STEPS
     }
 
     fn push(&mut self, step: Step)
-        requires { self.old.len < 6 }
-        ensures { self.new ≡ pushed self.old step.until step.worth }
+        requires room { length (used self.old) < 6 }
+        requires fits { stepped (used self.old ++ step ∷ []) ≡ true }
+        ensures { used self.new ≡ used self.old ++ step ∷ [] }
     {
-        self.list[self.len as usize] = step;
+        self.list[usize::from(self.len)] = step;
         self.len += 1;
     }
 }
 
 impl StepBook {
+    ghost use Rattle.book.specs.StepLists.{steps_in};
+
     // A book without steps.
     pub fn new() -> StepBook
-        ensures { result.steps ≡ no_steps }
+        ensures { steps_in result ≡ no_steps }
     {
         StepBook {
-            steps: [Steps::NONE; 16],
+            steps: [Steps::new(); 16],
         }
     }
 
     // Adds a step behind the last one of the task.
     #[tactic(auto, using(common::proofs::Refusals::fitting))]
     pub fn step(&mut self, t: u8, until: u32, worth: u32) -> Result<(), Refusal>
-        ensures answers { Answered (step_rows self.old.steps t until worth) (step_added self.old.steps t until worth)
-            self.old.steps self.new.steps (outcome result) }
-        ensures means { Stepped self.old.steps self.new.steps t until worth (outcome result) }
+        ensures answers { Answered (step_rows (steps_in self.old) t until worth) (step_added (steps_in self.old) t until worth)
+            (steps_in self.old) (steps_in self.new) (outcome result) }
+        ensures means { Stepped (steps_in self.old) (steps_in self.new) t until worth (outcome result) }
     {
-        if t >= MOST {
-            return Err(Refusal::UnknownTask);
-        }
+        let k = place(t)?;
         let step = Step { until, worth };
-        let mut own = self.steps[t as usize];
+        let mut own = self.steps[k];
         if !own.takes(step) {
             return Err(Refusal::BookRule);
         }
-        if own.len >= MOST_STEPS {
+        if own.is_full() {
             return Err(Refusal::StepsFull);
         }
         own.push(step);
-        self.steps[t as usize] = own;
+        self.steps[k] = own;
         Ok(())
     }
 
     // Takes all steps of the task away.
     #[tactic(auto, using(common::proofs::Refusals::fitting))]
     pub fn drop_steps(&mut self, t: u8) -> Result<(), Refusal>
-        ensures answers { Answered (drop_rows t) (steps_dropped self.old.steps t)
-            self.old.steps self.new.steps (outcome result) }
-        ensures means { Dropped self.old.steps self.new.steps t (outcome result) }
+        ensures answers { Answered (drop_rows t) (steps_dropped (steps_in self.old) t)
+            (steps_in self.old) (steps_in self.new) (outcome result) }
+        ensures means { Dropped (steps_in self.old) (steps_in self.new) t (outcome result) }
     {
-        if t >= MOST {
-            return Err(Refusal::UnknownTask);
-        }
-        self.steps[t as usize] = Steps::NONE;
+        let k = place(t)?;
+        self.steps[k] = Steps::new();
         Ok(())
     }
 }
 
 impl Book for StepBook {
-    ghost meaning = { λ x. step_meaning x.steps };
+    ghost use Rattle.book.specs.StepLists.{steps_in};
+    ghost use Rattle.book.specs.StepLaws.{steps-sound};
 
-    ghost sound = { λ x. steps-sound x.steps x.whole x.sound };
+    ghost meaning = { λ x. step_meaning (steps_in x) };
 
-    #[tactic(auto, using(crate::specs::StepLaws::no_step))]
+    ghost sound = { steps-sound };
+
     fn worth(&self, task: u8, at: Expected) -> u32 {
-        if task >= MOST {
-            return 0;
-        }
-        self.steps[task as usize].at(at)
+        self.steps
+            .get(usize::from(task))
+            .map_or(0, |own| own.at(at))
     }
 }

@@ -3,7 +3,8 @@ ghost use Rattle.std.specs.Prelude.{◌≡◌, ℕ, ◌≤◌, length, set};
 ghost use Rattle.book.specs.Weights.{Reweighed, all_one, weight_of, weight_rows};
 ghost use Rattle.common.specs.Refusals.{Answered, outcome};
 
-use common::{MOST, Refusal};
+use crate::place::place;
+use common::Refusal;
 
 const HEAVIEST: u32 = 16;
 
@@ -29,10 +30,7 @@ impl Weights {
         ensures value { result ≡ weight_of self.now.list t }
         ensures light { result ≤ 16 }
     {
-        if t >= MOST {
-            return 1;
-        }
-        self.list[t as usize] as u32
+        self.list.get(usize::from(t)).copied().map_or(1, u32::from)
     }
 
     #[tactic(auto, using(common::proofs::Refusals::fitting))]
@@ -41,13 +39,11 @@ impl Weights {
             self.old.list self.new.list (outcome result) }
         ensures means { Reweighed self.old.list self.new.list t weight (outcome result) }
     {
-        if t >= MOST {
-            return Err(Refusal::UnknownTask);
-        }
+        let k = place(t)?;
         if weight == 0 || weight > HEAVIEST {
             return Err(Refusal::BookRule);
         }
-        self.list[t as usize] = weight as u8;
+        self.list[k] = weight as u8;
         Ok(())
     }
 }

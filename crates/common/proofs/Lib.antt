@@ -1,3 +1,4 @@
 pub mod Sets
 pub mod Ranks
 pub mod Refusals
+pub mod Made

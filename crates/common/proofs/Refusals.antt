@@ -1,7 +1,8 @@
 -- The first row that fits has the smallest number. Assumes nothing.
-use Rattle.std.proofs.Common.{◌≡◌, refl, sym, subst, true, false, [], ◌∷◌, inl, inr, ℕ, ◌≤◌, ◌<◌, arith}
+use Rattle.std.proofs.Common.{◌≡◌, refl, sym, subst, true, false, [], ◌∷◌, ℕ, ◌≤◌, ◌<◌, arith, All, Contains, IsTrue, Bool}
+use Rattle.std.proofs.lemmas.List.Elements.{All-nil, All-cons, Contains-append_right}
 use Rattle.std.proofs.lemmas.Bool.{false≢true}
-use Rattle.common.specs.Refusals.{number, Rows, first_fit, Below, Among, Smallest}
+use Rattle.common.specs.Refusals.{number, Rows, first_fit, Smallest}
 use Rattle.common.specs.declared.refusal.Refusal.{Refusal}
 use Rattle.common.specs.declared.refusal.Refusal.TheVariants.{UnknownTask, SheetFull, Durations, Circle, NoLink, DeadlineRange, OtherKind, BookRule, StepsFull}
 
@@ -24,20 +25,26 @@ abbrev pub Rising : ℕ → Rows → Type 0
 Rising lo [] = Unit {0}
 Rising lo ((fits, m) ∷ rs) = (lo < m) × Rising m rs
 
+-- each row of rs that fits has a number of at least n, which is not 0
+abbrev pub Above : ℕ → Bool × ℕ → Type 0
+Above n row = IsTrue row.0 → (0 < n) × (n ≤ row.1)
+
 -- every row of a rising list is above a number at or below its start
-below : (n lo : ℕ) (rs : Rows) → Rising lo rs → 0 < n → n ≤ lo → Below rs n
-below n lo [] r pos le = tt
-below n lo ((fits, m) ∷ rs) r pos le = (λ _. (pos, omega arith), below n m rs r.1 pos (omega arith))
+above : (n lo : ℕ) (rs : Rows) → Rising lo rs → 0 < n → n ≤ lo → All (Above n) rs
+above n lo [] r pos le = All-nil (Above n)
+above n lo ((fits, m) ∷ rs) r pos le = All-cons (Above n) (fits, m) rs (λ _. (pos, omega arith)) (above n m rs r.1 pos (omega arith))
 
-first-fits : (rs : Rows) → 0 < first_fit rs → Among rs (first_fit rs)
-first-fits [] pos = omega arith
-first-fits ((true, m) ∷ rs) pos = inl (refl, refl)
-first-fits ((false, m) ∷ rs) pos = inr (first-fits rs pos)
+first-fits : (rs : Rows) → 0 < first_fit rs → Contains rs (true, first_fit rs)
+first-fits [] pos = absurd (omega arith)
+first-fits ((true, m) ∷ rs) pos = (0, omega arith, refl)
+first-fits ((false, m) ∷ rs) pos = Contains-append_right ((false, m) ∷ []) rs _ (first-fits rs pos)
 
-first-least : (lo : ℕ) (rs : Rows) → Rising lo rs → Below rs (first_fit rs)
-first-least lo [] r = tt
-first-least lo ((true, m) ∷ rs) r = (λ _. (omega arith, omega arith), below m m rs r.1 (omega arith) (omega arith))
-first-least lo ((false, m) ∷ rs) r = (λ e. absurd (false≢true e), first-least m rs r.1)
+first-least : (lo : ℕ) (rs : Rows) → Rising lo rs → All (Above (first_fit rs)) rs
+first-least lo [] r = All-nil (Above 0)
+first-least lo ((true, m) ∷ rs) r =
+    All-cons (Above m) (true, m) rs (λ _. (omega arith, omega arith)) (above m m rs r.1 (omega arith) (omega arith))
+first-least lo ((false, m) ∷ rs) r =
+    All-cons (Above (first_fit rs)) (false, m) rs (λ e. absurd (false≢true e)) (first-least m rs r.1)
 
 pub fitting : (rs : Rows) → Rising 0 rs → (n : ℕ) → n ≡ first_fit rs → Smallest rs n
 fitting rs rising n e = subst (Smallest rs) (sym e) (record { least = first-least 0 rs rising; fits = first-fits rs })

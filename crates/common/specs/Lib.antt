@@ -2,3 +2,4 @@ pub mod Sets
 pub mod Ranks
 pub mod Refusals
 pub mod RankLaws
+pub mod Texts

@@ -1,11 +1,5 @@
 -- The choice of the first best. Assumes nothing.
-use Rattle.std.specs.Prelude.{Bool, true, false, List, ◌≡◌, ℕ, ◌<◌, length, slice_index_or, Option, Some, None}
-
--- the rank at i is the best of the list, and the first of the best: none beats it, and it beats each before it
-pub record FirstBest {R : Type 0} (beats : R → R → Bool) (xs : List R) (i : ℕ) : Type 0 where
-  pub within : i < length xs
-  pub best : (k : ℕ) (d : R) → k < length xs → beats (slice_index_or xs k d) (slice_index_or xs i d) ≡ false
-  pub first : (k : ℕ) (d : R) → k < i → beats (slice_index_or xs i d) (slice_index_or xs k d) ≡ true
+use Rattle.std.specs.Prelude.{Bool, true, false, List, ◌≡◌, ℕ, ◌<◌, slice_index_or, Option, Some, None}
 
 -- ranks of which some are absent: any rank beats an absent one
 abbrev pub or_absent : {R : Type 0} → (R → R → Bool) → Option R → Option R → Bool

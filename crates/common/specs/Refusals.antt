@@ -5,7 +5,7 @@
 --     Smallest rs n            n is the smallest number of a row that fits, and 0 where none does
 --     kept_unless n new old    what a call leaves that answers n
 --     Answered rs new old left n    what every call promises that may be refused
-use Rattle.std.specs.Prelude.{Bool, true, List, [], ◌∷◌, ◌≡◌, ℕ, ◌≤◌, ◌<◌, Result, Ok, Err, if◌then◌else◌, ◌==◌, ◌⊎◌}
+use Rattle.std.specs.Prelude.{Bool, true, List, [], ◌∷◌, ◌≡◌, ℕ, ◌≤◌, ◌<◌, Result, Ok, Err, if◌then◌else◌, ◌==◌, IsTrue, All, Contains}
 use Rattle.common.specs.declared.refusal.Refusal.{Refusal}
 use Rattle.common.specs.declared.refusal.Refusal.TheVariants.{UnknownTask, SheetFull, Durations, Circle, NoLink, DeadlineRange, OtherKind, BookRule, StepsFull}
 
@@ -32,19 +32,11 @@ abbrev pub first_fit : Rows → ℕ
 first_fit [] = 0
 first_fit ((fits, n) ∷ rs) = if fits then n else first_fit rs
 
--- no row that fits has a number below n, and n is 0 only where none fits
-abbrev pub Below : Rows → ℕ → Type 0
-Below [] n = Unit {0}
-Below ((fits, m) ∷ rs) n = (fits ≡ true → (0 < n) × (n ≤ m)) × Below rs n
-
--- some row that fits has the number n
-abbrev pub Among : Rows → ℕ → Type 0
-Among [] n = ⊥
-Among ((fits, m) ∷ rs) n = ((fits ≡ true) × (m ≡ n)) ⊎ Among rs n
-
 pub record Smallest (rs : Rows) (n : ℕ) : Type 0 where
-  pub least : Below rs n
-  pub fits : 0 < n → Among rs n
+  -- no row that fits has a number below n, and n is 0 only where none fits
+  pub least : All (λ row. IsTrue row.0 → (0 < n) × (n ≤ row.1)) rs
+  -- some row that fits has the number n
+  pub fits : 0 < n → Contains rs (true, n)
 
 -- the new value where the call is accepted, the old one where it is refused
 abbrev pub kept_unless : {A : Type 0} → ℕ → A → A → A

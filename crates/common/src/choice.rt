@@ -1,7 +1,9 @@
 // The one rule by which the best is chosen: the lowest index among the best.
-ghost use Rattle.std.specs.Prelude.{◌≡◌, Bool, true, false, ℕ, slice_index_or, length, MatchOption, None};
-ghost use Rattle.common.specs.Ranks.{FirstBest, FirstPresent, or_absent};
-ghost use Rattle.common.specs.RankLaws.{present-one_way, present-chain};
+ghost use Rattle.std.specs.Prelude.{◌≡◌, Bool, ℕ, slice_index_or, length, MatchOption, None};
+ghost use Rattle.std.specs.Cmp.{IsStrictWeakOrder};
+ghost use Rattle.std.specs.List.{IsFirstBest};
+ghost use Rattle.common.specs.Ranks.{FirstPresent, or_absent};
+ghost use Rattle.common.specs.RankLaws.{present-ordered};
 
 // A rank: its comparison is a total order up to equal rank. Of two ranks at most one is better, and where neither x is better
 // than y nor y than z, x is not better than z.
@@ -11,18 +13,14 @@ pub trait Rank {
     fn better(&self, other: &Self) -> bool
         ensures { result ≡ beats self.now other.now };
 
-    ghost one_way: { (x y : Self) → beats x y ≡ true → beats y x ≡ false };
-
-    ghost chain: { (x y z : Self) → beats x y ≡ false → beats y z ≡ false → beats x z ≡ false };
+    ghost ordered: { IsStrictWeakOrder beats };
 }
 
 // Where some ranks are absent, any rank is better than none.
 impl<R: Rank> Rank for Option<R> {
     ghost beats = { or_absent R.beats };
 
-    ghost one_way = { present-one_way R.one_way };
-
-    ghost chain = { present-chain R.chain };
+    ghost ordered = { present-ordered R.ordered };
 
     fn better(&self, other: &Option<R>) -> bool {
         match (self, other) {
@@ -35,11 +33,12 @@ impl<R: Rank> Rank for Option<R> {
 
 // The lowest index among the best ranks; none of an empty slice.
 pub fn first_best<R: Rank>(ranks: &[R]) -> Option<usize>
-    ensures { MatchOption result (length ranks.now ≡ 0) (FirstBest R.beats ranks.now) }
+    ensures { MatchOption result (length ranks.now ≡ 0) (IsFirstBest R.beats ranks.now (length ranks.now)) }
 {
     if ranks.is_empty() {
         return None;
     }
+    // The index is the answer, so the loop counts it.
     let mut best = 0;
     for i in 1..ranks.len() {
         if ranks[i].better(&ranks[best]) {
@@ -53,9 +52,7 @@ pub fn first_best<R: Rank>(ranks: &[R]) -> Option<usize>
 pub fn first_present<R: Rank>(ranks: &[Option<R>]) -> Option<usize>
     ensures { MatchOption result ((k : ℕ) → slice_index_or ranks.now k None ≡ None) (FirstPresent R.beats ranks.now) }
 {
-    let Some(best) = first_best(ranks) else {
-        return None;
-    };
+    let best = first_best(ranks)?;
     let Some(_) = &ranks[best] else {
         return None;
     };

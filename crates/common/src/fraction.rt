@@ -1,7 +1,6 @@
 // Fractions, of which the greatest is the best.
 ghost use Rattle.std.specs.Prelude.{◌≡◌, ◌*◌, ◌<◌, nat_lt, MatchOption};
-ghost use Rattle.common.specs.RankLaws.{cross-chain};
-ghost use Rattle.std.proofs.Common.{rules};
+ghost use Rattle.common.specs.RankLaws.{fractions-ordered};
 
 use crate::choice::Rank;
 
@@ -28,11 +27,9 @@ impl Fraction {
 impl Rank for Fraction {
     ghost beats = { λ x y. nat_lt (y.num * x.den) (x.num * y.den) };
 
-    ghost one_way = { Prim.search rules };
-
-    ghost chain = { λ x y z. cross-chain x.num x.den y.num y.den z.num z.den y.whole };
+    ghost ordered = { fractions-ordered (λ f. f.num) (λ f. f.den) (λ f. f.whole) };
 
     fn better(&self, other: &Fraction) -> bool {
-        (other.num as u64) * (self.den as u64) < (self.num as u64) * (other.den as u64)
+        u64::from(other.num) * u64::from(self.den) < u64::from(self.num) * u64::from(other.den)
     }
 }

@@ -1,60 +1,67 @@
 // Why a call is refused. A refused call leaves everything as it was.
-ghost use Rattle.std.specs.Prelude.{◌≡◌, ◌↔◌, IsTrue, nat_eq};
-ghost use Rattle.std.specs.Ordering.{on};
+ghost use Rattle.std.specs.Prelude.{◌≡◌};
 ghost use Rattle.std.specs.Cmp.Rules.{comparing};
 ghost use Rattle.std.proofs.Common.{rules};
 ghost use Rattle.common.specs.Refusals.{number};
 
+use crate::exact::Exact;
+use std::error::Error;
+use std::fmt;
+
 // Where several fit a call, the smallest number is answered.
-#[derive(Clone, Copy)]
+#[derive(Clone, Copy, Debug, PartialEq, Eq)]
 pub enum Refusal {
     // No task has the number; of a call that changes a book, the number is above 15.
-    UnknownTask,
+    UnknownTask = 1,
     // Sixteen tasks are there.
-    SheetFull,
+    SheetFull = 2,
     // The durations break 1 <= min <= max <= 65,535.
-    Durations,
+    Durations = 3,
     // The link would close a circle; from a task to itself too.
-    Circle,
+    Circle = 4,
     // There is no such direct link.
-    NoLink,
+    NoLink = 5,
     // The deadline breaks 1 <= deadline <= 1,048,575.
-    DeadlineRange,
+    DeadlineRange = 6,
     // The task is soft and was to be hard, or hard and was to be soft.
-    OtherKind,
+    OtherKind = 7,
     // The ramp, the step or the weight breaks its rule.
-    BookRule,
+    BookRule = 8,
     // Six steps are there.
-    StepsFull,
+    StepsFull = 9,
 }
 
 impl Refusal {
     pub fn number(self) -> u8
         ensures { result ≡ number self }
     {
-        match self {
-            Refusal::UnknownTask => 1,
-            Refusal::SheetFull => 2,
-            Refusal::Durations => 3,
-            Refusal::Circle => 4,
-            Refusal::NoLink => 5,
-            Refusal::DeadlineRange => 6,
-            Refusal::OtherKind => 7,
-            Refusal::BookRule => 8,
-            Refusal::StepsFull => 9,
-        }
+        self as u8
     }
 }
 
-impl PartialEq for Refusal {
-    ghost eq = { on number nat_eq };
+impl fmt::Display for Refusal {
+    ghost use Rattle.std.specs.Prelude.{Some};
+    ghost use Rattle.common.specs.Texts.{refusal_text};
 
-    ghost laws = { Prim.search (comparing, rules) };
+    ghost output = { λ refusal. Some (refusal_text refusal) };
 
-    fn eq(&self, other: &Refusal) -> bool
-        ensures value { result ≡ nat_eq (number self.now) (number other.now) }
-        ensures same { IsTrue result ↔ (self.now ≡ other.now) }
-    {
-        self.number() == other.number()
+    fn fmt<W: fmt::Write>(&self, f: &mut fmt::Formatter<W>) -> fmt::Result {
+        f.write_str(match self {
+            Refusal::UnknownTask => "no task has the number",
+            Refusal::SheetFull => "sixteen tasks are there",
+            Refusal::Durations => "durations must keep 1 <= min <= max <= 65535",
+            Refusal::Circle => "the link would close a circle",
+            Refusal::NoLink => "there is no such direct link",
+            Refusal::DeadlineRange => "a deadline must keep 1 <= deadline <= 1048575",
+            Refusal::OtherKind => "a soft task can't be marked hard, nor a hard one soft",
+            Refusal::BookRule => "the ramp, the step or the weight breaks its rule",
+            Refusal::StepsFull => "six steps are there",
+        })
     }
+}
+
+impl Error for Refusal {}
+
+impl Exact for Refusal {
+    ghost exact = { Prim.search (comparing, rules) };
 }

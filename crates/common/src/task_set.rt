@@ -1,14 +1,15 @@
 // A set of task numbers as a bit mask: bit t is set where t is a member.
-ghost use Rattle.std.specs.Prelude.{◌≡◌, false, not, ◌&&◌, ◌||◌, ℕ, nat_lt, MatchOption, count_ones, if◌then◌else◌, ◌==◌, ◌↔◌, IsTrue, nat_eq};
-ghost use Rattle.std.specs.Ordering.{on};
+ghost use Rattle.std.specs.Prelude.{◌≡◌, false, not, ◌&&◌, ◌||◌, ℕ, nat_lt, MatchOption, count_ones, if◌then◌else◌, ◌==◌};
 ghost use Rattle.std.specs.Cmp.Rules.{comparing};
 ghost use Rattle.std.proofs.Common.{rules};
 ghost use Rattle.common.specs.Sets.{has, adding, removing, Lowest};
 
+use crate::exact::Exact;
+
 // A task number is below this.
 pub const MOST: u8 = 16;
 
-#[derive(Clone, Copy)]
+#[derive(Clone, Copy, Debug, PartialEq, Eq)]
 pub struct TaskSet(u16);
 
 impl TaskSet {
@@ -58,15 +59,6 @@ impl TaskSet {
     }
 }
 
-impl PartialEq for TaskSet {
-    ghost eq = { on (λ s. s.0) nat_eq };
-
-    ghost laws = { Prim.search (comparing, rules) };
-
-    fn eq(&self, other: &TaskSet) -> bool
-        ensures value { result ≡ nat_eq self.now.0 other.now.0 }
-        ensures same { IsTrue result ↔ (self.now ≡ other.now) }
-    {
-        self.0 == other.0
-    }
+impl Exact for TaskSet {
+    ghost exact = { Prim.search (comparing, rules) };
 }

@@ -1,28 +1,44 @@
-// Ticks of one microsecond. Expected ticks and maximum ticks are two types, and neither converts into the other: a worth is
-// looked up at expected ticks only, a deadline is held against maximum ticks only.
+// Ticks of one microsecond. Ticks counted at expected durations and ticks counted at maximum durations are two types, and
+// neither converts into the other: a worth is looked up at expected ticks only, a deadline is held against maximum ticks only.
 ghost use Rattle.std.specs.Prelude.{◌≡◌, ◌+◌, ◌-◌, ◌^◌, min, nat_le, pos, ◌-ℤ◌, int_lt};
+ghost use Rattle.std.specs.Cmp.{IsStrictWeakOrder};
 ghost use Rattle.std.proofs.Common.{rules};
 
 use crate::choice::Rank;
+use std::marker::PhantomData;
 
-// Ticks counted at expected durations.
-#[derive(Clone, Copy)]
-pub struct Expected(pub u32);
+// At expected durations.
+#[derive(Clone, Copy, Debug, PartialEq, Eq)]
+pub struct AtExpected;
 
-// Ticks counted at maximum durations.
-#[derive(Clone, Copy)]
-pub struct Maximum(pub u32);
+// At maximum durations.
+#[derive(Clone, Copy, Debug, PartialEq, Eq)]
+pub struct AtMaximum;
+
+// Ticks counted at durations of one kind.
+#[derive(Clone, Copy, Debug, PartialEq, Eq)]
+pub struct Ticks<Durations>(pub u32, PhantomData<Durations>);
+
+pub type Expected = Ticks<AtExpected>;
+
+pub type Maximum = Ticks<AtMaximum>;
 
 // What is left of a deadline; below 0 where it is missed.
-#[derive(Clone, Copy)]
+#[derive(Clone, Copy, Debug, PartialEq, Eq)]
 pub struct Margin(pub i64);
 
-impl Expected {
+impl<Durations> Ticks<Durations> {
+    pub fn of(count: u32) -> Ticks<Durations>
+        ensures { result.0 ≡ count }
+    {
+        Ticks(count, PhantomData)
+    }
+
     // Both together; never past the largest 32-bit number.
-    pub fn plus(self, other: Expected) -> Expected
+    pub fn plus(self, other: Ticks<Durations>) -> Ticks<Durations>
         ensures { result.0 ≡ min (self.0 + other.0) (2 ^ 32 - 1) }
     {
-        Expected(self.0.saturating_add(other.0))
+        Ticks::of(self.0.saturating_add(other.0))
     }
 }
 
@@ -38,14 +54,7 @@ impl Maximum {
     pub fn margin(self, deadline: u32) -> Margin
         ensures { result.0 ≡ pos deadline -ℤ pos self.0 }
     {
-        Margin(deadline as i64 - self.0 as i64)
-    }
-
-    // Both together; never past the largest 32-bit number.
-    pub fn plus(self, other: Maximum) -> Maximum
-        ensures { result.0 ≡ min (self.0 + other.0) (2 ^ 32 - 1) }
-    {
-        Maximum(self.0.saturating_add(other.0))
+        Margin(i64::from(deadline) - i64::from(self.0))
     }
 }
 
@@ -53,9 +62,7 @@ impl Maximum {
 impl Rank for Margin {
     ghost beats = { λ x y. int_lt x.0 y.0 };
 
-    ghost one_way = { Prim.search rules };
-
-    ghost chain = { Prim.search rules };
+    ghost ordered = { record { one_way = Prim.search rules; chain = Prim.search rules } };
 
     fn better(&self, other: &Margin) -> bool {
         self.0 < other.0

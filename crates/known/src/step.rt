@@ -1,24 +1,19 @@
-// A call or a question on a sheet, and last the answer that it must have: of a call 0, or the number of its refusal.
+// A call or a question on a sheet, with the answer that it must have.
+use common::Refusal;
+
 #[derive(Clone, Copy)]
 pub enum Step {
     // A new sheet, on which the next steps are made.
     New,
-    Task(u32, u32, u8),
-    Time(u8, u32, u32, u8),
-    Link(u8, u8, u8),
-    Cut(u8, u8, u8),
-    Hard(u8, u32, u8),
-    Soft(u8, u8),
-    Plain(u8, u8),
+    Call(sheet::Call, Result<(), Refusal>),
     // Whether the link from the first to the second is there.
     Linked(u8, u8, bool),
     Expected(u8, u32),
     // Whether the second is in the up-set of the first.
     Above(u8, u8, bool),
-    Margin(u8, i64),
-    NoMargin(u8),
+    // None where the task isn't hard.
+    Margin(u8, Option<i64>),
     Fits(bool),
-    Tightest(u8),
-    // No task is hard, so none is the tightest.
-    NoTightest,
+    // None where no task is hard.
+    Tightest(Option<u8>),
 }

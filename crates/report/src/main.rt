@@ -2,77 +2,49 @@
 // and which task is the tightest.
 #![tactic(auto)]
 
-ghost use Rattle.std.specs.Prelude.{◌≡◌, IfOk};
-ghost use Rattle.report.specs.Steps.{call_of, number_of};
-ghost use Rattle.sheet.specs.Calls.{after, verdict};
-ghost use Rattle.common.specs.Refusals.{outcome};
+ghost use Rattle.std.specs.Fmt.{padded};
+ghost use Rattle.std.specs.Option.{option_map_or};
+ghost use Rattle.std.specs.Prelude.{Some, codes};
 
-use common::{MOST, Margin, Refusal, TaskSet};
-use sheet::{Kind, Sheet, Task};
-use std::io;
-use week::{BUS_GROUP, NAMES, RF_GROUP, Step};
-use words::{kind_word, reason};
+use common::{MOST, Margin};
+use sheet::{Call, Kind, Sheet, Task};
+use std::{fmt, io};
+use week::{BUS_GROUP, NAMES, RF_GROUP};
 
 mod week;
-mod words;
 
-// Makes the step's call. A new task answers its number.
-fn call(sheet: &mut Sheet, step: Step) -> Result<Option<u8>, Refusal>
-    ensures says { outcome result ≡ verdict sheet.old.table (call_of step) }
-    ensures gives { IfOk result (λ t. t ≡ number_of sheet.old.table step) }
-    ensures leaves { sheet.new.table ≡ after sheet.old.table (call_of step) }
-{
-    match step {
-        Step::Task(min, max) => return Ok(Some(sheet.task(min, max)?)),
-        Step::Link(a, b) => sheet.link(a, b)?,
-        Step::Cut(a, b) => sheet.cut(a, b)?,
-        Step::Hard(t, deadline) => sheet.hard(t, deadline)?,
-        Step::Soft(t) => sheet.soft(t)?,
+// A value, or a dash where it is absent.
+#[derive(Clone, Copy)]
+struct OrDash<T>(Option<T>);
+
+impl<T: fmt::Display> fmt::Display for OrDash<T> {
+    ghost output = { λ x. option_map_or T.output x.0 (Some (codes "-")) };
+
+    ghost styled_output = { λ x style.
+        option_map_or (λ value. T.styled_output value style) x.0 (Some (padded style (codes "-"))) };
+
+    fn fmt<W: fmt::Write>(&self, f: &mut fmt::Formatter<W>) -> fmt::Result {
+        match &self.0 {
+            Some(value) => value.fmt(f),
+            None => f.pad("-"),
+        }
     }
-    Ok(None)
 }
 
-fn print_calls(rt: &impl Print, sheet: &mut Sheet, group: &str, steps: &[Step]) -> io::Result<()> {
+fn print_calls(rt: &impl Print, sheet: &mut Sheet, group: &str, calls: &[Call]) -> io::Result<()> {
     println!(rt; "{group}")?;
-    for step in steps {
-        match call(sheet, *step) {
-            Ok(Some(t)) => {
-                let name = name(t);
-                println!(rt; "  {step}: {t}, {name}")?
-            }
-            Ok(None) => println!(rt; "  {step}: accepted")?,
-            Err(refusal) => {
-                let number = refusal.number();
-                let why = reason(refusal);
-                println!(rt; "  {step}: refused with {number}, {why}")?
-            }
+    for &call in calls {
+        match sheet.make(call) {
+            Ok(Some(t)) => println!(rt; "  {call}: {t}, {}", name(t))?,
+            Ok(None) => println!(rt; "  {call}: accepted")?,
+            Err(refusal) => println!(rt; "  {call}: refused with {}, {refusal}", refusal.number())?,
         }
     }
     Ok(())
 }
 
 fn name(t: u8) -> &'static str {
-    match NAMES.get(t as usize) {
-        Some(name) => name,
-        None => "unnamed",
-    }
-}
-
-// A number in a column, or a dash where it is absent.
-fn print_number(rt: &impl Print, number: Option<i64>) -> io::Result<()> {
-    match number {
-        Some(number) => print!(rt; "{number:>9}"),
-        None => print!(rt; "        -"),
-    }
-}
-
-fn print_set(rt: &impl Print, set: TaskSet) -> io::Result<()> {
-    for t in 0..MOST {
-        if set.contains(t) {
-            print!(rt; " {t}")?;
-        }
-    }
-    println!(rt; "")
+    NAMES.get(usize::from(t)).copied().unwrap_or("unnamed")
 }
 
 fn print_task(rt: &impl Print, sheet: &Sheet, t: u8) -> io::Result<()> {
@@ -87,25 +59,18 @@ fn print_task(rt: &impl Print, sheet: &Sheet, t: u8) -> io::Result<()> {
         kind,
         before,
     } = task;
-    let word = kind_word(kind);
-    print!(rt; "{t:>4}  {name:<15} {min:>5} {max:>5} {expected:>8}  {word:<5}")?;
-    print_number(rt, deadline(kind))?;
-    print_number(rt, left(margin))?;
-    print_set(rt, before)
-}
-
-fn deadline(kind: Kind) -> Option<i64> {
-    let Kind::Hard(deadline) = kind else {
-        return None;
-    };
-    Some(deadline as i64)
-}
-
-fn left(margin: Option<Margin>) -> Option<i64> {
-    let Some(Margin(left)) = margin else {
-        return None;
-    };
-    Some(left)
+    let deadline = OrDash(match kind {
+        Kind::Hard(deadline) => Some(deadline),
+        _ => None,
+    });
+    let left = OrDash(margin.map(|Margin(left)| left));
+    print!(rt;
+        "{t:>4}  {name:<15} {min:>5} {max:>5} {expected:>8}  {kind:<5}{deadline:>9}{left:>9}"
+    )?;
+    for p in (0..MOST).filter(|&p| before.contains(p)) {
+        print!(rt; " {p}")?;
+    }
+    println!(rt; "")
 }
 
 fn print_sheet(rt: &impl Print, sheet: &Sheet) -> io::Result<()> {
@@ -118,8 +83,7 @@ fn print_sheet(rt: &impl Print, sheet: &Sheet) -> io::Result<()> {
     let Some(t) = sheet.tightest() else {
         return println!(rt; "Tightest: none, for no task is hard");
     };
-    let name = name(t);
-    println!(rt; "Tightest: {t}, {name}")
+    println!(rt; "Tightest: {t}, {}", name(t))
 }
 
 fn run(rt: &impl Print) -> io::Result<()> {

@@ -1,5 +1,5 @@
 -- Up-sets gathered one after another, and what makes the descent end. Assumes nothing.
-use Rattle.std.proofs.Common.{◌≡◌, sym, subst, Bool, true, ◌&&◌, ◌||◌, inl, inr, ⊎_elim, ℕ, ◌<◌, arith, eqb, eqb-true, eq-eqb}
+use Rattle.std.proofs.Common.{◌≡◌, sym, subst, Bool, true, ◌&&◌, ◌||◌, inl, inr, ⊎_elim, ℕ, ◌<◌, arith, eqb, eqb-true, eq-eqb, length}
 use Rattle.std.proofs.lemmas.Bool.{cases_Bool, or_cases, or_left, or_right, and_parts, and_from}
 use Rattle.std.proofs.lemmas.Bool.Decides.{same_from_decides}
 use Rattle.common.proofs.Sets.{has-none, any-true, any-from, sum-less}
@@ -7,11 +7,11 @@ use Rattle.common.specs.Sets.{has, any, sum_where}
 use Rattle.sheet.proofs.Paths.{Up, join, onward, last-link, reaches-decides, up-decides}
 use Rattle.sheet.specs.Links.{one, more, Closed, linked, reaches, up}
 use Rattle.sheet.specs.Rules.{Acyclic, Known}
-use Rattle.sheet.specs.declared.table.Table.{Table}
+use Rattle.sheet.specs.Tables.{Table}
 
 -- how many tasks have a path to x
 pub ancestors : Table → ℕ → ℕ
-ancestors t x = sum_where (λ u. reaches t u x) (λ _. 1) t.len
+ancestors t x = sum_where (λ u. reaches t u x) (λ _. 1) (length t)
 
 -- a set that is closed has the up-set of each of its members
 pub closed-up : (t : Table) (s : ℕ) → Closed t s → {u x : ℕ} → Up t u x → has s x ≡ true → has s u ≡ true
@@ -24,27 +24,27 @@ pub fewer : (t : Table) → Known t → Acyclic t → (p x : ℕ) → linked t p
 unfolding ancestors
 fewer t known acyclic p x l =
     let test = reaches-decides t known in
-    sum-less (λ u. reaches t u p) (λ u. reaches t u x) (λ _. 1) (λ u e. (test u x).1 (join t ((test u p).0 e) (one l))) t.len p ((known p x l).0)
+    sum-less (λ u. reaches t u p) (λ u. reaches t u x) (λ _. 1) (λ u e. (test u x).1 (join t ((test u p).0 e) (one l))) (length t) p ((known p x l).0)
     (⊎_elim (λ e. absurd (acyclic p ((test p p).0 e))) (λ e. e) (cases_Bool (reaches t p p)))
     ((test p x).1 (one l))
     (omega arith)
 
 module _ (t : Table) (known : Known t) where
   -- x, and the up-sets of the tasks linked to x: that is the up-set of x
-  pub up-by-links : (u x : ℕ) → up t u x ≡ (eqb u x || any t.len (λ q. linked t q x && up t u q))
+  pub up-by-links : (u x : ℕ) → up t u x ≡ (eqb u x || any (length t) (λ q. linked t q x && up t u q))
   up-by-links u x =
       let test = up-decides t known in
       same_from_decides _ _ (test u x) (
         λ e. ⊎_elim
             (λ h. inl (eqb-true u x h))
-            (λ h. let f = any-from t.len (λ q. linked t q x && up t u q) h in
+            (λ h. let f = any-from (length t) (λ q. linked t q x && up t u q) h in
             let b = and_parts (linked t f.0 x) (up t u f.0) f.2 in
             inr (⊎_elim (λ s. one (subst (λ z. linked t z x ≡ true) (sym s) b.0)) (λ p. join t p (one b.0)) ((test u f.0).0 b.1)))
             (or_cases (eqb u x) _ e),
         λ h. ⊎_elim
             (λ e. or_left _ _ (eq-eqb u x e))
             (λ p. let s = last-link t p in
-            or_right (eqb u x) _ (any-true t.len (λ q. linked t q x && up t u q) s.0 ((known s.0 x s.2).0) (and_from _ _ s.2 ((test u s.0).1 s.1))))
+            or_right (eqb u x) _ (any-true (length t) (λ q. linked t q x && up t u q) s.0 ((known s.0 x s.2).0) (and_from _ _ s.2 ((test u s.0).1 s.1))))
             h,
       )
 

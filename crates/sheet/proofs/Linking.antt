@@ -1,5 +1,5 @@
 -- What `link` and `cut` do to links, paths and up-sets. Assumes nothing.
-use Rattle.std.proofs.Common.{◌≡◌, sym, ap, subst, ◌∙◌, true, cond, not, ◌&&◌, ◌||◌, inl, inr, ⊎_elim, ℕ, ◌<◌, arith, eqb, eqb-true}
+use Rattle.std.proofs.Common.{◌≡◌, sym, ap, ap₂, subst, ◌∙◌, true, cond, not, ◌&&◌, ◌||◌, inl, inr, ⊎_elim, ℕ, ◌<◌, arith, eqb, eqb-true, length, set}
 use Rattle.std.proofs.lemmas.Bool.{cases_Bool, cond-true, and_parts}
 use Rattle.std.proofs.lemmas.Bool.Decides.{same_from_decides, Decides-like}
 use Rattle.std.proofs.lemmas.Grind.{common_steps}
@@ -9,17 +9,17 @@ use Rattle.common.proofs.Sets.{has-adding, has-removing}
 use Rattle.common.specs.Sets.{has, adding, removing}
 use Rattle.sheet.proofs.Kept.{keeps, linked-is}
 use Rattle.sheet.proofs.Paths.{Up, carried, reaches-decides, up-decides}
-use Rattle.sheet.proofs.Rules.{Sound, linked-written}
+use Rattle.sheet.proofs.Rules.{Sound, linked-put}
 use Rattle.sheet.specs.Calls.{link, cut, verdict, changed, with_before}
 use Rattle.sheet.specs.Linking.{Linking, Cutting}
 use Rattle.sheet.specs.Links.{Path, one, linked, up}
-use Rattle.sheet.specs.Tables.{blank, put, task_of}
-use Rattle.sheet.specs.declared.table.Table.{Table}
+use Rattle.sheet.specs.Tables.{Table, blank, task_of}
+use Rattle.sheet.specs.declared.table.Task.{Task}
 
 module _ (t : Table) (r : Sound t) (a b : ℕ) where
   -- the links of a table whose row b has these direct predecessors
-  linked-before : b < t.len → (s x y : ℕ) → linked (put t b (with_before s (task_of t b))) x y ≡ cond (eqb y b) (has s x) (linked t x y)
-  linked-before lt s x y = linked-written t r t.len b (with_before s (task_of t b)) (omega (arith, r.few)) x y
+  linked-before : b < length t → (s x y : ℕ) → linked (set t b (with_before s (task_of t b))) x y ≡ cond (eqb y b) (has s x) (linked t x y)
+  linked-before lt s x y = linked-put t b (with_before s (task_of t b)) lt x y
 
   -- the direct predecessors of b are the tasks linked to it
   linked-at : (x y : ℕ) → eqb y b ≡ true → has ((task_of t b).before.0) x ≡ linked t x y
@@ -66,8 +66,7 @@ module _ (t : Table) (r : Sound t) (a b : ℕ) where
   -- a link that is there is made again to no effect
   link-again : linked t a b ≡ true → changed t (link a b) ≡ t
   link-again l =
-      ap (λ s. put t b (with_before s (task_of t b))) (cond-true _ _ _ (linked-is t a b ∙ l))
-      ∙ ap (λ ts. let u : Table = record { len = t.len; tasks = ts } in u) (set-get_or t.tasks b blank)
+      ap (λ s. set t b (with_before s (task_of t b))) (cond-true _ _ _ (linked-is t a b ∙ l)) ∙ set-get_or t b blank
 
   pub linking : (t' : Table) → t' ≡ changed t (link a b) → verdict t (link a b) ≡ 0 → Linking t t' a b 0
   linking t' e v =
@@ -80,6 +79,10 @@ module _ (t : Table) (r : Sound t) (a b : ℕ) where
 
   pub cutting : (t' : Table) → t' ≡ changed t (cut a b) → verdict t (cut a b) ≡ 0 → Cutting t t' a b
   cutting t' e v = subst (λ u. Cutting t u a b) (sym e) (record { only = cut-drops v; stays = cut-stays v })
+
+-- task b has new direct predecessors
+pub relinked : (t t' : Table) (b s s' : ℕ) (x : Task) → t' ≡ set t b (with_before s' x) → s' ≡ s → x ≡ task_of t b → t' ≡ set t b (with_before s (task_of t b))
+relinked t t' b s s' x new e is = new ∙ ap₂ (λ s x. set t b (with_before s x)) e is
 
 -- what finds the refusal that a call answers, where it hands on that of another call
 pub ruleset answering = (fitting, number-pos)

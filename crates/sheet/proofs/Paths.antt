@@ -1,9 +1,9 @@
 -- `reaches` is the test of a path, and what a link more or less does to paths. Assumes nothing.
-use Rattle.std.proofs.Common.{◌≡◌, refl, sym, subst, true, ◌&&◌, ◌⊎◌, inl, inr, ⊎_elim, ℕ, zero, suc, ◌<◌, arith, eqb, Decides, eqb-true, eq-eqb}
+use Rattle.std.proofs.Common.{◌≡◌, refl, sym, subst, true, ◌&&◌, ◌⊎◌, inl, inr, ⊎_elim, ℕ, zero, suc, ◌<◌, arith, eqb, Decides, eqb-true, eq-eqb, length}
 use Rattle.std.proofs.lemmas.Bool.{or_cases, or_left, or_right, and_parts, and_from, cases_order}
 use Rattle.sheet.specs.Links.{Path, one, more, linked, via, reaches, up}
 use Rattle.sheet.specs.Rules.{Known}
-use Rattle.sheet.specs.declared.table.Table.{Table}
+use Rattle.sheet.specs.Tables.{Table}
 
 -- u is x, or a path leads from it to x
 abbrev pub Up : Table → ℕ → ℕ → Type 0
@@ -73,12 +73,12 @@ module _ (t : Table) where
   module _ (known : Known t) where
     reached : {a b : ℕ} → Path t a b → reaches t a b ≡ true
     unfolding reaches
-    reached {a} {b} (one l) = via-link t.len a b l
-    reached {a} {b} (more {c = c} l p) = via-joins t.len a c b ((known a c l).1) (via-link t.len a c l) (reached p)
+    reached {a} {b} (one l) = via-link (length t) a b l
+    reached {a} {b} (more {c = c} l p) = via-joins (length t) a c b ((known a c l).1) (via-link (length t) a c l) (reached p)
 
     pub reaches-decides : (a b : ℕ) → Decides (reaches t a b) (Path t a b)
     unfolding reaches
-    reaches-decides a b = (via-path t.len a b, reached)
+    reaches-decides a b = (via-path (length t) a b, reached)
 
     pub up-decides : (u x : ℕ) → Decides (up t u x) (Up t u x)
     unfolding up

@@ -4,4 +4,6 @@ pub mod Rules
 pub mod Calls
 pub mod Linking
 pub mod Margins
-pub mod EqualLaws
+pub mod Lists
+pub mod Sheets
+pub mod Texts

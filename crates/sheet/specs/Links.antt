@@ -4,10 +4,9 @@
 --     reaches t a b    the test of a path
 --     up t u x         u is in the up-set of x: it is x, or a path leads from it to x
 --     Closed t s       with each task, the set s has all that are linked to it
-use Rattle.std.specs.Prelude.{◌≡◌, Bool, true, ◌&&◌, ◌||◌, ℕ, zero, suc, ◌==◌}
+use Rattle.std.specs.Prelude.{◌≡◌, Bool, true, ◌&&◌, ◌||◌, ℕ, zero, suc, ◌==◌, length}
 use Rattle.common.specs.Sets.{has}
-use Rattle.sheet.specs.Tables.{task_of}
-use Rattle.sheet.specs.declared.table.Table.{Table}
+use Rattle.sheet.specs.Tables.{Table, task_of}
 
 unfoldable pub linked : Table → ℕ → ℕ → Bool
 linked t a b = has (task_of t b).before.0 a
@@ -22,7 +21,7 @@ via t zero a b = linked t a b
 via t (suc k) a b = via t k a b || (via t k a k && via t k k b)
 
 unfoldable pub reaches : Table → ℕ → ℕ → Bool
-reaches t a b = via t t.len a b
+reaches t a b = via t (length t) a b
 
 unfoldable pub up : Table → ℕ → ℕ → Bool
 up t u x = u == x || reaches t u x

@@ -5,14 +5,13 @@
 --     margin_of t k    the deadline of task k less the demand at it; absent for a task that isn't hard
 --     Fits t           no margin is below 0
 --     Tightest t k     task k has the least margin, and no lower-numbered one has as little
-use Rattle.std.specs.Prelude.{◌≡◌, Bool, false, ◌&&◌, ℕ, ◌<◌, nat_le, pos, ◌-ℤ◌, ◌≤ℤ◌, ◌<ℤ◌, Option, Some, None}
-use Rattle.common.specs.Sets.{any, sum_where}
+use Rattle.std.specs.Prelude.{◌≡◌, Bool, false, ◌&&◌, ℕ, ◌<◌, nat_le, pos, ◌-ℤ◌, ◌≤ℤ◌, ◌<ℤ◌, Option, Some, None, length}
+use Rattle.common.specs.Sets.{any}
 use Rattle.common.specs.declared.ticks.Margin.{Margin}
 use Rattle.sheet.specs.Links.{up}
-use Rattle.sheet.specs.Tables.{task_of, maximum_of}
+use Rattle.sheet.specs.Tables.{Table, load_of, maximum_of, task_of}
 use Rattle.sheet.specs.declared.table.Kind.{Kind}
 use Rattle.sheet.specs.declared.table.Kind.TheVariants.{Plain, Soft, Hard}
-use Rattle.sheet.specs.declared.table.Table.{Table}
 
 abbrev pub due_by : ℕ → Kind → Bool
 due_by d Plain = false
@@ -20,10 +19,10 @@ due_by d Soft = false
 due_by d (Hard last) = nat_le last d
 
 unfoldable pub needed : Table → ℕ → ℕ → Bool
-needed t d u = any t.len (λ h. due_by d (task_of t h).kind && up t u h)
+needed t d u = any (length t) (λ h. due_by d (task_of t h).kind && up t u h)
 
 unfoldable pub demand : Table → ℕ → ℕ
-demand t d = sum_where (needed t d) (λ u. maximum_of (task_of t u)) t.len
+demand t d = load_of maximum_of t (needed t d)
 
 -- the margin at the deadline d
 abbrev pub left_at : Table → ℕ → Margin

@@ -1,14 +1,16 @@
-// The rows that a sheet is made of, with no rule between them.
-ghost use Rattle.std.specs.Prelude.{◌≡◌, ◌+◌, ◌*◌, ◌<◌, ◌≤◌, ◌↔◌, IsTrue};
-ghost use Rattle.sheet.specs.Calls.{changed, cut, link, task, time, with_kind};
-ghost use Rattle.sheet.specs.EqualLaws.{kind_eq, kinds-compare, task_eq, tasks-compare, table_eq, tables-compare};
+// The tasks that a sheet is made of, with no rule between them.
+ghost use Rattle.std.specs.Prelude.{◌≡◌, ◌+◌, ◌-◌, ◌*◌, ◌<◌, ◌≤◌, [], ◌∷◌, ◌++◌, drop, length, replicate, set};
+ghost use Rattle.std.specs.Cmp.Rules.{comparing};
+ghost use Rattle.std.proofs.Common.{rules};
+ghost use Rattle.sheet.specs.Calls.{new_task};
 ghost use Rattle.sheet.specs.Margins.{due_by};
-ghost use Rattle.sheet.specs.Tables.{empty, expected_of, maximum_of, put, task_of};
+ghost use Rattle.sheet.specs.Tables.{blank, expected_of, maximum_of, task_of};
 
-use common::{Expected, Maximum, TaskSet};
+use common::{Exact, Expected, Maximum, TaskSet};
+use std::fmt;
 
 // How a task's end counts.
-#[derive(Clone, Copy)]
+#[derive(Clone, Copy, Debug, PartialEq, Eq)]
 pub enum Kind {
     // It does not.
     Plain,
@@ -18,7 +20,8 @@ pub enum Kind {
     Hard(u32),
 }
 
-#[derive(Clone, Copy)]
+// How long a task takes, how its end counts, and what stands before it.
+#[derive(Clone, Copy, Debug, PartialEq, Eq)]
 pub struct Task {
     pub min: u16,
     pub max: u16,
@@ -27,11 +30,14 @@ pub struct Task {
     pub before: TaskSet,
 }
 
-// The first `len` rows hold tasks.
-#[derive(Clone, Copy)]
+// At most sixteen tasks: the first `len` places hold them, and the others are blank.
+#[derive(Clone, Copy, Debug, PartialEq, Eq)]
 pub struct Table {
-    pub len: u8,
-    pub tasks: [Task; 16],
+    len: u8,
+    tasks: [Task; 16],
+    ghost whole: { length tasks ≡ 16 },
+    ghost few: { len ≤ 16 },
+    ghost clear: { drop len tasks ≡ replicate (16 - len) blank },
 }
 
 impl Kind {
@@ -46,14 +52,50 @@ impl Kind {
     }
 }
 
+impl fmt::Display for Kind {
+    ghost use Rattle.std.specs.Fmt.{padded};
+    ghost use Rattle.std.specs.Prelude.{Some};
+    ghost use Rattle.sheet.specs.Texts.{kind_text};
+
+    ghost output = { λ kind. Some (kind_text kind) };
+
+    ghost styled_output = { λ kind style. Some (padded style (kind_text kind)) };
+
+    fn fmt<W: fmt::Write>(&self, f: &mut fmt::Formatter<W>) -> fmt::Result {
+        f.pad(match self {
+            Kind::Plain => "plain",
+            Kind::Soft => "soft",
+            Kind::Hard(_) => "hard",
+        })
+    }
+}
+
 impl Task {
+    const BLANK: Task = Task {
+        min: 0,
+        max: 0,
+        kind: Kind::Plain,
+        before: TaskSet::EMPTY,
+    };
+
+    // A plain task to which no link leads.
+    pub(crate) fn plain(min: u16, max: u16) -> Task
+        ensures { result ≡ new_task min max }
+    {
+        Task {
+            min,
+            max,
+            ..Task::BLANK
+        }
+    }
+
     // The midpoint of the durations, rounded down.
     #[tactic(auto, unfolding(crate::specs::Tables::expected_of))]
     pub fn expected(&self) -> Expected
         ensures value { result.0 ≡ expected_of self.now }
         ensures midpoint { (2 * result.0 ≤ self.now.min + self.now.max) × (self.now.min + self.now.max < 2 * result.0 + 2) }
     {
-        Expected((self.min as u32 + self.max as u32) / 2)
+        Expected::of((u32::from(self.min) + u32::from(self.max)) / 2)
     }
 
     // How long the task takes at most.
@@ -61,119 +103,63 @@ impl Task {
     pub fn maximum(&self) -> Maximum
         ensures { result.0 ≡ maximum_of self.now }
     {
-        Maximum(self.max as u32)
+        Maximum::of(u32::from(self.max))
     }
 }
 
 impl Table {
+    ghost use Rattle.sheet.specs.Lists.{listed};
+
     pub fn empty() -> Table
-        ensures { result ≡ empty }
+        ensures { listed result ≡ [] }
     {
-        let blank = Task {
-            min: 0,
-            max: 0,
-            kind: Kind::Plain,
-            before: TaskSet::EMPTY,
-        };
         Table {
             len: 0,
-            tasks: [blank; 16],
+            tasks: [Task::BLANK; 16],
         }
     }
 
-    pub fn add(&mut self, min: u16, max: u16)
-        requires { self.old.len < 16 }
-        ensures { self.new ≡ changed self.old (task min max) }
+    pub fn len(&self) -> u8
+        ensures { result ≡ length (listed self.now) }
     {
-        self.tasks[self.len as usize] = Task {
-            min,
-            max,
-            kind: Kind::Plain,
-            before: TaskSet::EMPTY,
-        };
+        self.len
+    }
+
+    pub fn tasks(&self) -> &[Task]
+        ensures { result.now ≡ listed self.now }
+    {
+        &self.tasks[0..usize::from(self.len)]
+    }
+
+    pub fn at(&self, t: u8) -> Task
+        requires { t < length (listed self.now) }
+        ensures { result ≡ task_of (listed self.now) t }
+    {
+        self.tasks()[usize::from(t)]
+    }
+
+    pub fn push(&mut self, task: Task)
+        requires { length (listed self.old) < 16 }
+        ensures { listed self.new ≡ listed self.old ++ task ∷ [] }
+    {
+        self.tasks[usize::from(self.len)] = task;
         self.len += 1;
     }
 
-    pub fn retime(&mut self, t: u8, min: u16, max: u16)
-        requires { t < 16 }
-        ensures { self.new ≡ changed self.old (time t min max) }
+    // Puts the task in place of task t.
+    #[tactic(auto, using(crate::proofs::Tables::listed_put, crate::proofs::Tables::clear_put))]
+    pub fn put(&mut self, t: u8, task: Task)
+        requires { t < length (listed self.old) }
+        ensures { listed self.new ≡ set (listed self.old) t task }
     {
-        let mut task = self.tasks[t as usize];
-        task.min = min;
-        task.max = max;
-        self.tasks[t as usize] = task;
-    }
-
-    pub fn mark(&mut self, t: u8, kind: Kind)
-        requires { t < 16 }
-        ensures { self.new ≡ put self.old t (with_kind kind (task_of self.old t)) }
-    {
-        self.tasks[t as usize].kind = kind;
-    }
-
-    pub fn tie(&mut self, a: u8, b: u8)
-        requires { (a < 16) × (b < 16) }
-        ensures { self.new ≡ changed self.old (link a b) }
-    {
-        let before = self.tasks[b as usize].before;
-        self.tasks[b as usize].before = before.with(a);
-    }
-
-    pub fn untie(&mut self, a: u8, b: u8)
-        requires { (a < 16) × (b < 16) }
-        ensures { self.new ≡ changed self.old (cut a b) }
-    {
-        let before = self.tasks[b as usize].before;
-        self.tasks[b as usize].before = before.without(a);
+        self.tasks[usize::from(t)] = task;
     }
 }
 
-impl PartialEq for Kind {
-    ghost eq = { kind_eq };
-
-    ghost laws = { kinds-compare };
-
-    #[tactic(auto, using(crate::specs::EqualLaws::deciding))]
-    fn eq(&self, other: &Kind) -> bool
-        ensures value { result ≡ kind_eq self.now other.now }
-        ensures same { IsTrue result ↔ (self.now ≡ other.now) }
-    {
-        match (*self, *other) {
-            (Kind::Plain, Kind::Plain) => true,
-            (Kind::Soft, Kind::Soft) => true,
-            (Kind::Hard(a), Kind::Hard(b)) => a == b,
-            _ => false,
-        }
-    }
+impl Exact for Kind {
+    ghost exact = { Prim.search (comparing, rules) };
 }
 
-impl PartialEq for Task {
-    ghost eq = { task_eq };
-
-    ghost laws = { tasks-compare };
-
-    #[tactic(auto, using(crate::specs::EqualLaws::deciding))]
-    fn eq(&self, other: &Task) -> bool
-        ensures value { result ≡ task_eq self.now other.now }
-        ensures same { IsTrue result ↔ (self.now ≡ other.now) }
-    {
-        self.min == other.min
-            && self.max == other.max
-            && self.kind == other.kind
-            && self.before == other.before
-    }
-}
-
-impl PartialEq for Table {
-    ghost eq = { table_eq };
-
-    ghost laws = { tables-compare };
-
-    #[tactic(auto, using(crate::specs::EqualLaws::deciding))]
-    fn eq(&self, other: &Table) -> bool
-        ensures value { result ≡ table_eq self.now other.now }
-        ensures same { IsTrue result ↔ (self.now ≡ other.now) }
-    {
-        self.len == other.len && self.tasks[..] == other.tasks[..]
-    }
+impl Exact for Task {
+    ghost exact = { Prim.search (comparing, rules) };
 }

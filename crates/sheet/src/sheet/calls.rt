@@ -1,12 +1,12 @@
 // The calls that change a sheet.
-ghost use Rattle.std.specs.Prelude.{◌≡◌, IfErr, IfOk, IsFalse, IsTrue, if◌then◌else◌, not};
-ghost use Rattle.common.specs.Refusals.{Smallest, outcome};
-ghost use Rattle.sheet.specs.Calls.{after, lasts, rows, verdict};
-ghost use Rattle.sheet.specs.Calls.{task, time, link, cut, hard, soft, plain};
+ghost use Rattle.std.specs.Prelude.{◌≡◌, IfErr, IfOk, IsFalse, IsTrue, length};
+ghost use Rattle.common.specs.Refusals.{outcome};
+ghost use Rattle.sheet.specs.Calls.{Called, lasts, task, time, link, cut, hard, soft, plain};
 ghost use Rattle.sheet.specs.Linking.{Linking, Cutting};
+ghost use Rattle.sheet.specs.Sheets.{table};
 
 use crate::sheet::Sheet;
-use crate::table::Kind;
+use crate::table::{Kind, Task};
 use common::{MOST, Refusal};
 
 const LONGEST: u32 = 65535;
@@ -15,9 +15,7 @@ const LAST_DEADLINE: u32 = 1048575;
 
 // The durations of a task, where they keep their rule.
 fn durations(min: u32, max: u32) -> Result<(u16, u16), Refusal>
-    ensures says { outcome result ≡ (if not (lasts min max) then 3 else 0) }
-    ensures gives { IfOk result (λ d. (d.0 ≡ min) × (d.1 ≡ max)) }
-    ensures fits { IfOk result (λ _. IsTrue (lasts min max)) }
+    ensures gives { IfOk result (λ d. IsTrue (lasts min max) × (d.0 ≡ min) × (d.1 ≡ max)) }
     ensures refuses { IfErr result (λ e. IsFalse (lasts min max) × (e ≡ Refusal.Durations)) }
 {
     if 1 <= min && min <= max && max <= LONGEST {
@@ -30,101 +28,93 @@ fn durations(min: u32, max: u32) -> Result<(u16, u16), Refusal>
 impl Sheet {
     // Adds a plain task, and answers its number.
     pub fn task(&mut self, min: u32, max: u32) -> Result<u8, Refusal>
-        ensures says { outcome result ≡ verdict self.old.table (task min max) }
-        ensures smallest { Smallest (rows self.old.table (task min max)) (outcome result) }
-        ensures gives { IfOk result (λ k. k ≡ self.old.table.len) }
-        ensures leaves { self.new.table ≡ after self.old.table (task min max) }
+        ensures called { Called (table self.old) (table self.new) (task min max) (outcome result) }
+        ensures gives { IfOk result (λ k. k ≡ length (table self.old)) }
     {
-        let t = self.table.len;
+        let t = self.count();
         if t >= MOST {
             return Err(Refusal::SheetFull);
         }
         let (min, max) = durations(min, max)?;
-        self.table.add(min, max);
+        self.table.push(Task::plain(min, max));
         Ok(t)
     }
 
     // Sets new durations; kind, deadline and links stay.
     pub fn time(&mut self, t: u8, min: u32, max: u32) -> Result<(), Refusal>
-        ensures says { outcome result ≡ verdict self.old.table (time t min max) }
-        ensures smallest { Smallest (rows self.old.table (time t min max)) (outcome result) }
-        ensures leaves { self.new.table ≡ after self.old.table (time t min max) }
+        ensures { Called (table self.old) (table self.new) (time t min max) (outcome result) }
     {
-        self.known(t)?;
+        let task = self.get(t)?;
         let (min, max) = durations(min, max)?;
-        self.table.retime(t, min, max);
+        self.table.put(t, Task { min, max, ..task });
         Ok(())
     }
 
     // Puts a before b. A link that is there already is accepted.
     #[tactic(auto, using(crate::proofs::Linking::looking))]
     pub fn link(&mut self, a: u8, b: u8) -> Result<(), Refusal>
-        ensures says { outcome result ≡ verdict self.old.table (link a b) }
-        ensures smallest { Smallest (rows self.old.table (link a b)) (outcome result) }
-        ensures leaves { self.new.table ≡ after self.old.table (link a b) }
-        ensures means { Linking self.old.table self.new.table a b (outcome result) }
+        ensures called { Called (table self.old) (table self.new) (link a b) (outcome result) }
+        ensures means { Linking (table self.old) (table self.new) a b (outcome result) }
     {
-        self.known(b)?;
+        let task = self.get(b)?;
         if self.up_set(a)?.contains(b) {
             return Err(Refusal::Circle);
         }
-        self.table.tie(a, b);
+        let before = task.before.with(a);
+        self.table.put(b, Task { before, ..task });
         Ok(())
     }
 
     // Takes that direct link away; any other path from a to b stays.
     pub fn cut(&mut self, a: u8, b: u8) -> Result<(), Refusal>
-        ensures says { outcome result ≡ verdict self.old.table (cut a b) }
-        ensures smallest { Smallest (rows self.old.table (cut a b)) (outcome result) }
-        ensures leaves { self.new.table ≡ after self.old.table (cut a b) }
-        ensures means { Cutting self.old.table self.new.table a b }
+        ensures called { Called (table self.old) (table self.new) (cut a b) (outcome result) }
+        ensures means { Cutting (table self.old) (table self.new) a b }
     {
         if !self.linked(a, b)? {
             return Err(Refusal::NoLink);
         }
-        self.table.untie(a, b);
+        let task = self.get(b)?;
+        let before = task.before.without(a);
+        self.table.put(b, Task { before, ..task });
         Ok(())
     }
 
     // Marks a plain or hard task as hard, to end by the deadline.
     pub fn hard(&mut self, t: u8, deadline: u32) -> Result<(), Refusal>
-        ensures says { outcome result ≡ verdict self.old.table (hard t deadline) }
-        ensures smallest { Smallest (rows self.old.table (hard t deadline)) (outcome result) }
-        ensures leaves { self.new.table ≡ after self.old.table (hard t deadline) }
+        ensures { Called (table self.old) (table self.new) (hard t deadline) (outcome result) }
     {
-        self.known(t)?;
-        if deadline == 0 || deadline > LAST_DEADLINE {
+        let task = self.get(t)?;
+        if !(1..=LAST_DEADLINE).contains(&deadline) {
             return Err(Refusal::DeadlineRange);
         }
-        if let Kind::Soft = self.table.tasks[t as usize].kind {
+        if let Kind::Soft = task.kind {
             return Err(Refusal::OtherKind);
         }
-        self.table.mark(t, Kind::Hard(deadline));
+        let kind = Kind::Hard(deadline);
+        self.table.put(t, Task { kind, ..task });
         Ok(())
     }
 
     // Marks a plain or soft task as soft.
     pub fn soft(&mut self, t: u8) -> Result<(), Refusal>
-        ensures says { outcome result ≡ verdict self.old.table (soft t) }
-        ensures smallest { Smallest (rows self.old.table (soft t)) (outcome result) }
-        ensures leaves { self.new.table ≡ after self.old.table (soft t) }
+        ensures { Called (table self.old) (table self.new) (soft t) (outcome result) }
     {
-        self.known(t)?;
-        if let Kind::Hard(_) = self.table.tasks[t as usize].kind {
+        let task = self.get(t)?;
+        if let Kind::Hard(_) = task.kind {
             return Err(Refusal::OtherKind);
         }
-        self.table.mark(t, Kind::Soft);
+        let kind = Kind::Soft;
+        self.table.put(t, Task { kind, ..task });
         Ok(())
     }
 
     // Takes the mark off.
     pub fn plain(&mut self, t: u8) -> Result<(), Refusal>
-        ensures says { outcome result ≡ verdict self.old.table (plain t) }
-        ensures smallest { Smallest (rows self.old.table (plain t)) (outcome result) }
-        ensures leaves { self.new.table ≡ after self.old.table (plain t) }
+        ensures { Called (table self.old) (table self.new) (plain t) (outcome result) }
     {
-        self.known(t)?;
-        self.table.mark(t, Kind::Plain);
+        let task = self.get(t)?;
+        let kind = Kind::Plain;
+        self.table.put(t, Task { kind, ..task });
         Ok(())
     }
 }

@@ -1,9 +1,10 @@
 // The up-set of a task: t with the up-sets of all tasks linked to t.
-ghost use Rattle.std.specs.Prelude.{◌≡◌, if◌then◌else◌, false, ◌||◌, ◌⊎◌, ◌↔◌, ℕ, ◌<◌, IfOk, IsTrue};
+ghost use Rattle.std.specs.Prelude.{◌≡◌, false, ◌||◌, ◌⊎◌, ◌↔◌, ℕ, ◌<◌, IfOk, IsTrue, length};
 ghost use Rattle.common.specs.Refusals.{outcome};
 ghost use Rattle.common.specs.Sets.{has};
-ghost use Rattle.sheet.specs.Calls.{unknown};
+ghost use Rattle.sheet.specs.Calls.{missing};
 ghost use Rattle.sheet.specs.Links.{Path, Closed, up};
+ghost use Rattle.sheet.specs.Sheets.{table};
 
 use crate::sheet::Sheet;
 use common::{Refusal, TaskSet};
@@ -13,14 +14,14 @@ impl Sheet {
     // each is entered at most once, however many paths lead to it.
     #[tactic(auto, using(crate::proofs::Ancestors::entering), unfolding(crate::specs::Links::linked))]
     pub(super) fn gather(&self, t: u8, found: TaskSet) -> TaskSet
-        requires task { t < self.now.table.len }
+        requires task { t < length (table self.now) }
         requires fresh { has found.0 t ≡ false }
-        requires closed { Closed self.now.table found.0 }
-        ensures { (u : ℕ) → has result.0 u ≡ (has found.0 u || up self.now.table u t) }
+        requires closed { Closed (table self.now) found.0 }
+        ensures { (u : ℕ) → has result.0 u ≡ (has found.0 u || up (table self.now) u t) }
     {
-        let before = self.table.tasks[t as usize].before;
+        let before = self.table.at(t).before;
         let mut all = found;
-        for p in 0..self.table.len {
+        for p in 0..self.count() {
             if before.contains(p) && !all.contains(p) {
                 all = self.gather(p, all);
             }
@@ -30,11 +31,11 @@ impl Sheet {
 
     #[tactic(auto, using(crate::proofs::Ancestors::climbing))]
     pub fn up_set(&self, t: u8) -> Result<TaskSet, Refusal>
-        ensures says { outcome result ≡ (if unknown self.now.table t then 1 else 0) }
-        ensures gives { IfOk result (λ s. (u : ℕ) → has s.0 u ≡ up self.now.table u t) }
-        ensures paths { IfOk result (λ s. (u : ℕ) → IsTrue (has s.0 u) ↔ ((u ≡ t) ⊎ Path self.now.table u t)) }
+        ensures says { outcome result ≡ missing (table self.now) t }
+        ensures gives { IfOk result (λ s. (u : ℕ) → has s.0 u ≡ up (table self.now) u t) }
+        ensures paths { IfOk result (λ s. (u : ℕ) → IsTrue (has s.0 u) ↔ ((u ≡ t) ⊎ Path (table self.now) u t)) }
     {
-        self.known(t)?;
+        self.get(t)?;
         Ok(self.gather(t, TaskSet::EMPTY))
     }
 }

@@ -1,8 +1,14 @@
-use Rattle.std.proofs.Common.{sym}
-use Rattle.book.proofs.Steps.{stepped-means}
+use Rattle.std.proofs.Common.{arith}
+use Rattle.std.proofs.lemmas.Grind.{common_steps}
+use Rattle.book.proofs.Steps.{steps-at, stepped-means, written}
 use Rattle.book.proofs.step.StepBook.step.Goals as goal
 
-pub returns-clause-means : goal.returns-clause-means
-returns-clause-means c =
+pub returns-clause-answers : goal.returns-clause-answers
+returns-clause-answers c =
     let x = c.args.self.now in
-    stepped-means x.steps c.args.t x.whole c.if-t-ge-MOST.false c.args.until c.args.worth _ _ (x.sound c.args.t) c.push.ensures c.if-own-ge-MOST_STEPS.false (sym c.if-not-takes.ensures)
+    let at = steps-at x _ _ c.in_ok-k.ensures c.index-self-k.result in
+    let e = written x _ _ c.in_ok-k.ensures c.push.new.self _ c.push.ensures in
+    grind (arith, common_steps)
+
+pub returns-clause-means : goal.returns-clause-means
+returns-clause-means c = stepped-means c.args.self.now _ _ _ _ (returns-clause-answers c)

@@ -1,0 +1,15 @@
+// Where a task stands in a list of sixteen.
+ghost use Rattle.std.specs.Prelude.{◌≡◌, ◌≤◌, ◌<◌, MatchResult};
+ghost use Rattle.common.specs.declared.refusal.Refusal.TheVariants.{UnknownTask};
+
+use common::{MOST, Refusal};
+
+// The number itself; refused above 15.
+pub fn place(t: u8) -> Result<usize, Refusal>
+    ensures { MatchResult result (λ k. (k ≡ t) × (t < 16)) (λ e. (e ≡ UnknownTask) × (16 ≤ t)) }
+{
+    if t >= MOST {
+        return Err(Refusal::UnknownTask);
+    }
+    Ok(usize::from(t))
+}

@@ -1,0 +1,15 @@
+-- What refusals print. Assumes nothing.
+use Rattle.std.specs.Prelude.{List, ℕ, codes}
+use Rattle.common.specs.declared.refusal.Refusal.{Refusal}
+use Rattle.common.specs.declared.refusal.Refusal.TheVariants.{UnknownTask, SheetFull, Durations, Circle, NoLink, DeadlineRange, OtherKind, BookRule, StepsFull}
+
+abbrev pub refusal_text : Refusal → List ℕ
+refusal_text UnknownTask = codes "no task has the number"
+refusal_text SheetFull = codes "sixteen tasks are there"
+refusal_text Durations = codes "durations must keep 1 <= min <= max <= 65535"
+refusal_text Circle = codes "the link would close a circle"
+refusal_text NoLink = codes "there is no such direct link"
+refusal_text DeadlineRange = codes "a deadline must keep 1 <= deadline <= 1048575"
+refusal_text OtherKind = codes "a soft task can't be marked hard, nor a hard one soft"
+refusal_text BookRule = codes "the ramp, the step or the weight breaks its rule"
+refusal_text StepsFull = codes "six steps are there"

@@ -1,0 +1,14 @@
+// Which sheets are equal.
+ghost use Rattle.std.specs.Prelude.{◌≡◌, ◌↔◌, IsTrue};
+ghost use Rattle.sheet.specs.Rules.{Alike};
+ghost use Rattle.sheet.specs.Sheets.{table};
+
+use crate::sheet::Sheet;
+
+// Equal sheets have the same tasks and links.
+pub fn equal_sheets(a: &Sheet, b: &Sheet) -> bool
+    ensures same { IsTrue result ↔ (table a.now ≡ table b.now) }
+    ensures alike { IsTrue result ↔ Alike (table a.now) (table b.now) }
+{
+    a == b
+}
