@@ -1,7 +1,7 @@
 #!/usr/bin/env python3
 """Brings the definitions of crates/*/specs to snake case, wherever they are cited: is-soft becomes is_soft.
 
-Lemmas keep their names: a dash there stands between a call and its argument, as in has-zero.
+Lemmas keep their names: a dash there stands between a call and its argument, as in has-none.
 Run once, at the top of the repository. It says where a new name stands already.
 """
 import glob, re

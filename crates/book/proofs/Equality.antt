@@ -10,14 +10,16 @@ use denote.Struct.Record.{values_one}
 use Rattle.book.specs.Standard.{Alike, contents}
 use Rattle.book.specs.StepLists.{steps_in, used}
 use Rattle.book.specs.Steps.{blank, steps_of}
-use Rattle.book.specs.declared.ramp.Ramp.{Ramp}
 use Rattle.book.specs.declared.ramp.RampBook.{RampBook}
 use Rattle.book.specs.declared.standard.StandardBook.{StandardBook}
-use Rattle.book.specs.declared.step.Step.{Step}
 use Rattle.book.specs.declared.step.StepBook.{StepBook}
 use Rattle.book.specs.declared.step.Steps.{Steps}
 use Rattle.book.specs.declared.weights.Weights.{Weights}
 use Rattle.std.specs.contracts.option.Option as option
+use Rattle.book.specs.contracts.ramp.RampExact.TheImpl.Laws.{exact-law as ramp-exact}
+use Rattle.book.specs.contracts.ramp.RampPartialEq.TheImpl.{eq-value as ramp-eq}
+use Rattle.book.specs.contracts.step.StepExact.TheImpl.Laws.{exact-law as step-exact}
+use Rattle.book.specs.contracts.step.StepPartialEq.TheImpl.{eq-value as step-eq}
 use Rattle.book.specs.contracts.ramp.Ramp as ramp
 use Rattle.book.specs.contracts.ramp.RampBook as ramp-book
 use Rattle.book.specs.contracts.step.Step as step
@@ -26,9 +28,6 @@ use Rattle.book.specs.contracts.step.Steps as steps
 use Rattle.book.specs.contracts.weights.Weights as weights
 
 -- ---- a value is its fields
-
-same-step : (x y : Step) → x.until ≡ y.until → x.worth ≡ y.worth → x ≡ y
-same-step x y until worth = λ i. record { until = until i; worth = worth i }
 
 same-steps : (x y : Steps) → x.len ≡ y.len → x.list ≡ y.list → x ≡ y
 same-steps x y len list = values_one steps.struct (steps.the_propositions step.the_row.coded) x y (λ i. (len i, (list i, tt)))
@@ -48,30 +47,13 @@ same-books x y r s w = λ i. record { layers = record { inner = record { first =
 
 -- ---- what `==` computes decides equality
 
-abbrev pub ramp_eq : Ramp → Ramp → Bool
-ramp_eq x y = eqb x.peak y.peak && (eqb x.knee y.knee && eqb x.foot y.foot)
-
-ramps-decide : (x y : Ramp) → Decides (ramp_eq x y) (x ≡ y)
-ramps-decide x y =
-    Decides-like _ (λ h. λ i. record { peak = h.0 i; knee = h.1.0 i; foot = h.1.1 i })
-    (λ e. (ap (λ (r : Ramp). r.peak) e, (ap (λ (r : Ramp). r.knee) e, ap (λ (r : Ramp). r.foot) e)))
-    (Decides-and _ _ (Decides-eqb _ _) (Decides-and _ _ (Decides-eqb _ _) (Decides-eqb _ _)))
-
-abbrev pub step_eq : Step → Step → Bool
-step_eq x y = eqb x.until y.until && eqb x.worth y.worth
-
-step-decides : (x y : Step) → Decides (step_eq x y) (x ≡ y)
-step-decides x y =
-    Decides-like _ (λ h. same-step x y h.0 h.1) (λ e. (ap (λ (s : Step). s.until) e, ap (λ (s : Step). s.worth) e))
-    (Decides-and _ _ (Decides-eqb _ _) (Decides-eqb _ _))
-
 abbrev pub steps_eq : Steps → Steps → Bool
-steps_eq x y = eqb x.len y.len && pointwise step_eq x.list y.list
+steps_eq x y = eqb x.len y.len && pointwise step-eq.it x.list y.list
 
 steps-decide : (x y : Steps) → Decides (steps_eq x y) (x ≡ y)
 steps-decide x y =
     Decides-like _ (λ h. same-steps x y h.0 h.1) (λ e. (ap (λ (s : Steps). s.len) e, ap (λ (s : Steps). s.list) e))
-    (Decides-and _ _ (Decides-eqb _ _) (pointwise_decides step-decides _ _))
+    (Decides-and _ _ (Decides-eqb _ _) (pointwise_decides step-exact _ _))
 
 options-decide : {X : Type 0} (E : X → X → Bool) → ((x y : X) → Decides (E x y) (x ≡ y)) → (o p : Option X) → Decides (option_eq E o p) (o ≡ p)
 options-decide E each None None = (λ _. refl, λ _. refl)
@@ -81,14 +63,14 @@ options-decide E each (Some x) (Some y) = Decides-like _ (ap Some) (same_Some x 
 
 abbrev pub books_eq : StandardBook → StandardBook → Bool
 books_eq x y =
-    (pointwise (option_eq ramp_eq) x.layers.inner.first.ramps y.layers.inner.first.ramps && pointwise steps_eq x.layers.inner.second.steps y.layers.inner.second.steps) &&
+    (pointwise (option_eq ramp-eq.it) x.layers.inner.first.ramps y.layers.inner.first.ramps && pointwise steps_eq x.layers.inner.second.steps y.layers.inner.second.steps) &&
     pointwise eqb x.layers.weights.list y.layers.weights.list
 
 pub books-decide : (x y : StandardBook) → Decides (books_eq x y) (x ≡ y)
 books-decide x y =
     Decides-like _ (λ h. same-books x y (same-ramp-books _ _ h.0.0) (same-step-books _ _ h.0.1) (same-weights _ _ h.1))
     (λ e. ((ap (λ (b : StandardBook). b.layers.inner.first.ramps) e, ap (λ (b : StandardBook). b.layers.inner.second.steps) e), ap (λ (b : StandardBook). b.layers.weights.list) e))
-    (Decides-and _ _ (Decides-and _ _ (pointwise_decides (options-decide _ ramps-decide) _ _) (pointwise_decides steps-decide _ _)) (bytes_decides _ _))
+    (Decides-and _ _ (Decides-and _ _ (pointwise_decides (options-decide _ ramp-exact) _ _) (pointwise_decides steps-decide _ _)) (bytes_decides _ _))
 
 -- ---- alike books
 

@@ -17,7 +17,7 @@ fn keenness<B: Book>(sheet: &Sheet, book: &B, t: u8) -> Option<Fraction>
     };
     let above = sheet.up_set(t).ok()?;
     Fraction::new(
-        book.worth(t, Expected::of(0)),
+        book.worth(t, Expected::from(0)),
         sheet.loads(above).expected.0,
     )
 }
@@ -27,6 +27,7 @@ fn ranks<B: Book>(sheet: &Sheet, book: &B) -> [Option<Fraction>; 16]
     ensures whole { length result ≡ 16 }
     ensures each { (k : ℕ) → Keenness (B.meaning book.now) (table sheet.now) k (slice_index_or result k None) }
 {
+    // An index below 16: the cast is proved to keep it.
     array::from_fn(|t| keenness(sheet, book, t as u8))
 }
 
@@ -36,5 +37,6 @@ pub fn keenest<B: Book>(sheet: &Sheet, book: &B) -> Option<u8>
         (Keenest (B.meaning book.now) (table sheet.now)) }
 {
     let t = first_present(&ranks(sheet, book))?;
+    // An index below 16: the cast is proved to keep it.
     Some(t as u8)
 }

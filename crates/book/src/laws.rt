@@ -23,7 +23,7 @@ pub fn layers_stand()
 pub fn last_worth<B: Book>(book: &B, task: u8) -> u32
     ensures { result ≡ B.meaning book.now task (2 ^ 32 - 1) }
 {
-    book.worth(task, Expected::of(u32::MAX))
+    book.worth(task, Expected::from(u32::MAX))
 }
 
 // What the steepest product comes to: a peak of 1,000,000 times the 1,048,574 ticks left at time 1, which 64 bits hold, divided
@@ -34,7 +34,7 @@ pub fn widest_product() -> (u32, u32)
 {
     let mut book = RampBook::new();
     let _ = book.ramp(0, TOP, 0, LATEST);
-    (book.worth(0, Expected::of(1)), last_worth(&book, 0))
+    (book.worth(0, Expected::from(1)), last_worth(&book, 0))
 }
 
 // Equal books are the same value, and have the same curves and weights.

@@ -10,14 +10,14 @@ use crate::weights::Weights;
 use common::{Expected, Refusal};
 
 // The worths of two books added, and the top where that is less.
-#[derive(Clone, Copy, PartialEq, Eq)]
+#[derive(Clone, Copy, Debug, PartialEq, Eq)]
 pub struct Sum<A, B> {
     pub first: A,
     pub second: B,
 }
 
 // The worth of a book times the task's weight, and the top where that is less.
-#[derive(Clone, Copy, PartialEq, Eq)]
+#[derive(Clone, Copy, Debug, PartialEq, Eq)]
 pub struct Weighted<B> {
     pub inner: B,
     pub(crate) weights: Weights,

@@ -1,4 +1,5 @@
-// Where a task stands in a list of sixteen.
+// Where a task stands in a list of sixteen. Ramps, steps and weights each have such a list of their own: calls of a generic type that
+// holds an array of its parameter would owe that the array's size is below 2^63.
 ghost use Rattle.std.specs.Prelude.{◌≡◌, ◌≤◌, ◌<◌, MatchResult};
 ghost use Rattle.common.specs.declared.refusal.Refusal.TheVariants.{UnknownTask};
 

@@ -1,23 +1,26 @@
 // A book of ramps.
 ghost use Rattle.std.specs.Prelude.{◌≡◌, true, ℕ, length};
+ghost use Rattle.std.specs.Cmp.Rules.{comparing};
+ghost use Rattle.std.proofs.Common.{rules};
 ghost use Rattle.book.specs.Ramps.{keeps_rule, no_ramps, ramp_meaning, ramp_of, ramp_rows};
 ghost use Rattle.book.specs.Ramps.{ramped, slope, sloped, Ramped};
 ghost use Rattle.common.specs.Refusals.{Answered, outcome};
 
 use crate::book::{Book, LATEST, TOP};
 use crate::place::place;
-use common::{Expected, Refusal};
+use common::{Exact, Expected, Refusal};
 
 // Worth the peak up to the knee, then less and less, and nothing from the foot on.
-#[derive(Clone, Copy, PartialEq, Eq)]
+#[derive(Clone, Copy, Debug, PartialEq, Eq)]
 pub struct Ramp {
     peak: u32,
     knee: u32,
     foot: u32,
 }
 
-// At most one ramp for each task.
-#[derive(Clone, Copy, PartialEq, Eq)]
+// At most one ramp for each task. The rule of ramps is the book's: with it in `Ramp`, a definition could not write down the ramp that a call
+// sets.
+#[derive(Clone, Copy, Debug, PartialEq, Eq)]
 pub struct RampBook {
     ramps: [Option<Ramp>; 16],
     ghost whole: { length ramps ≡ 16 },
@@ -39,6 +42,7 @@ impl Ramp {
         }
         let left = u64::from(self.foot - at.0);
         let fall = u64::from(self.foot - self.knee);
+        // At most the peak: the cast is proved to keep it.
         (u64::from(self.peak) * left / fall) as u32
     }
 }
@@ -80,4 +84,8 @@ impl Book for RampBook {
         };
         ramp.at(at)
     }
+}
+
+impl Exact for Ramp {
+    ghost exact = { Prim.search (comparing, rules) };
 }

@@ -14,7 +14,7 @@ use crate::step::StepBook;
 use common::{Expected, Refusal};
 
 // Equal books are equal values.
-#[derive(Clone, Copy, PartialEq, Eq)]
+#[derive(Clone, Copy, Debug, PartialEq, Eq)]
 pub struct StandardBook {
     layers: Weighted<Sum<RampBook, StepBook>>,
 }

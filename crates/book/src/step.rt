@@ -1,26 +1,28 @@
 // A book of steps.
-ghost use Rattle.std.specs.Prelude.{◌≡◌, true, [], ◌∷◌, ◌++◌, ℕ, ◌<◌, ◌≤◌, find, length, nat_le, ◌-◌, drop, replicate, take};
+ghost use Rattle.std.specs.Prelude.{◌≡◌, true, [], ◌∷◌, ◌++◌, ◌<◌, ◌≤◌, find, length, nat_le, ◌-◌, drop, replicate, take};
+ghost use Rattle.std.specs.Cmp.Rules.{comparing};
+ghost use Rattle.std.proofs.Common.{rules};
 ghost use Rattle.book.specs.Steps.{Dropped, Stepped, blank, drop_rows, no_steps};
 ghost use Rattle.book.specs.Steps.{step_added, step_meaning, step_rows, stepped, steps_dropped, steps_worth};
 ghost use Rattle.common.specs.Refusals.{Answered, outcome};
 
 use crate::book::{Book, LATEST, TOP};
 use crate::place::place;
-use common::{Expected, Refusal};
+use common::{Exact, Expected, Refusal};
 
 const MOST_STEPS: u8 = 6;
 
 // Up to a time, a worth.
-#[derive(Clone, Copy, PartialEq, Eq)]
+#[derive(Clone, Copy, Debug, PartialEq, Eq)]
 pub struct Step {
     until: u32,
     worth: u32,
 }
 
 // At most six steps: the first `len` places hold them, and the others are blank. Each step reaches further than the one before,
-// and is worth no more. With a list on the heap, books were not `Copy`; with an `impl Model` here, a book that was passed by value
-// could not be used again.
-#[derive(Clone, Copy, PartialEq, Eq)]
+// and is worth no more. On the heap a book could not be `Copy`; with an `impl Model` a book that was passed by value could not be
+// used again.
+#[derive(Clone, Copy, Debug, PartialEq, Eq)]
 pub struct Steps {
     len: u8,
     list: [Step; 6],
@@ -31,7 +33,7 @@ pub struct Steps {
 }
 
 // At most six steps for each task.
-#[derive(Clone, Copy, PartialEq, Eq)]
+#[derive(Clone, Copy, Debug, PartialEq, Eq)]
 pub struct StepBook {
     steps: [Steps; 16],
     ghost whole: { length steps ≡ 16 },
@@ -156,4 +158,8 @@ impl Book for StepBook {
             .get(usize::from(task))
             .map_or(0, |own| own.at(at))
     }
+}
+
+impl Exact for Step {
+    ghost exact = { Prim.search (comparing, rules) };
 }

@@ -9,7 +9,7 @@ use common::Refusal;
 const HEAVIEST: u32 = 16;
 
 // From 1 to 16.
-#[derive(Clone, Copy, PartialEq, Eq)]
+#[derive(Clone, Copy, Debug, PartialEq, Eq)]
 pub struct Weights {
     list: [u8; 16],
     ghost whole: { length list ≡ 16 },
@@ -40,9 +40,10 @@ impl Weights {
         ensures means { Reweighed self.old.list self.new.list t weight (outcome result) }
     {
         let k = place(t)?;
-        if weight == 0 || weight > HEAVIEST {
+        if !(1..=HEAVIEST).contains(&weight) {
             return Err(Refusal::BookRule);
         }
+        // At most 16: the cast is proved to keep it.
         self.list[k] = weight as u8;
         Ok(())
     }

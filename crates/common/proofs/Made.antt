@@ -1,5 +1,5 @@
 -- Arrays that a closure makes. Assumes nothing.
-use Rattle.std.proofs.Common.{◌≡◌, sym, subst, List, ⊎_elim, ℕ, zero, suc, ◌+◌, ◌<◌, ◌≤◌, arith, get_or}
+use Rattle.std.proofs.Common.{◌≡◌, List, ⊎_elim, ℕ, zero, suc, ◌+◌, ◌<◌, ◌≤◌, arith, get_or}
 use Rattle.std.proofs.lemmas.Bool.{cases_eq, cases_lt}
 use Rattle.std.proofs.lemmas.List.{get_or_past}
 use Rattle.std.specs.Array.{IsFromFnResult, IsFromFnResultFrom}
@@ -12,8 +12,8 @@ module _ {F B : Type 0} (g : Mut F (ℕ × Unit {0}) B) (P : ℕ → B → Type 
   made_from ys d i (suc n) in_few (q, y, at, call, rest) k ge lt =
       let one = step i y q (omega arith) call in
       ⊎_elim
-      (λ e. subst (λ j. P j (get_or ys j d)) (sym e) (subst (P i) (sym (at.1 d)) one.0))
-      (λ ne. made_from ys d (i + 1) n (omega arith) (subst (λ r. IsFromFnResultFrom g r ys (i + 1) n) one.1 rest) k (omega arith) (omega arith))
+      (λ e. rw e (rw (at.1 d) one.0))
+      (λ ne. made_from ys d (i + 1) n (omega arith) (rw one.1 at rest) k (omega arith) (omega arith))
       (cases_eq k i)
 
   -- so each element is what P asks, and past the end d is
@@ -21,5 +21,5 @@ module _ {F B : Type 0} (g : Mut F (ℕ × Unit {0}) B) (P : ℕ → B → Type 
   made_same ys d made past k =
       ⊎_elim
       (λ lt. made_from ys d 0 few (omega arith) made.each k (omega arith) (omega arith))
-      (λ ge. subst (P k) (sym (get_or_past ys k d (omega (arith, made.long)))) (past k ge))
+      (λ ge. rw (get_or_past ys k d (omega (arith, made.long))) (past k ge))
       (cases_lt k few)

@@ -6,7 +6,7 @@ ghost use Rattle.common.specs.Ranks.{FirstPresent, or_absent};
 ghost use Rattle.common.specs.RankLaws.{present-ordered};
 
 // A rank: its comparison is a total order up to equal rank. Of two ranks at most one is better, and where neither x is better
-// than y nor y than z, x is not better than z.
+// than y nor y than z, x is not better than z. It is not std's `Ord`, since fractions of equal rank need not be equal.
 pub trait Rank {
     ghost beats: { Self → Self → Bool };
 
@@ -53,6 +53,7 @@ pub fn first_present<R: Rank>(ranks: &[Option<R>]) -> Option<usize>
     ensures { MatchOption result ((k : ℕ) → slice_index_or ranks.now k None ≡ None) (FirstPresent R.beats ranks.now) }
 {
     let best = first_best(ranks)?;
+    // By `?` or `then_some` in place of this pattern the proof does not close.
     let Some(_) = &ranks[best] else {
         return None;
     };

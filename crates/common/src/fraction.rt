@@ -4,7 +4,7 @@ ghost use Rattle.common.specs.RankLaws.{fractions-ordered};
 
 use crate::choice::Rank;
 
-#[derive(Clone, Copy)]
+#[derive(Clone, Copy, Debug)]
 pub struct Fraction {
     num: u32,
     den: u32,

@@ -12,6 +12,7 @@ pub const MOST: u8 = 16;
 #[derive(Clone, Copy, Debug, PartialEq, Eq)]
 pub struct TaskSet(u16);
 
+#[tactic(auto, using(crate::proofs::Sets::members))]
 impl TaskSet {
     pub const EMPTY: TaskSet = TaskSet(0);
 
@@ -55,6 +56,7 @@ impl TaskSet {
         if self.0 == 0 {
             return None;
         }
+        // At most 15: the cast is proved to keep it.
         Some(self.0.trailing_zeros() as u8)
     }
 }

@@ -1,17 +1,16 @@
 // Ticks of one microsecond. Ticks counted at expected durations and ticks counted at maximum durations are two types, and
 // neither converts into the other: a worth is looked up at expected ticks only, a deadline is held against maximum ticks only.
 ghost use Rattle.std.specs.Prelude.{◌≡◌, ◌+◌, ◌-◌, ◌^◌, min, nat_le, pos, ◌-ℤ◌, int_lt};
-ghost use Rattle.std.specs.Cmp.{IsStrictWeakOrder};
 ghost use Rattle.std.proofs.Common.{rules};
 
 use crate::choice::Rank;
 use std::marker::PhantomData;
 
-// At expected durations.
+// Marks ticks counted at expected durations.
 #[derive(Clone, Copy, Debug, PartialEq, Eq)]
 pub struct AtExpected;
 
-// At maximum durations.
+// Marks ticks counted at maximum durations.
 #[derive(Clone, Copy, Debug, PartialEq, Eq)]
 pub struct AtMaximum;
 
@@ -28,17 +27,19 @@ pub type Maximum = Ticks<AtMaximum>;
 pub struct Margin(pub i64);
 
 impl<Durations> Ticks<Durations> {
-    pub fn of(count: u32) -> Ticks<Durations>
-        ensures { result.0 ≡ count }
-    {
-        Ticks(count, PhantomData)
-    }
-
     // Both together; never past the largest 32-bit number.
     pub fn plus(self, other: Ticks<Durations>) -> Ticks<Durations>
         ensures { result.0 ≡ min (self.0 + other.0) (2 ^ 32 - 1) }
     {
-        Ticks::of(self.0.saturating_add(other.0))
+        Ticks::from(self.0.saturating_add(other.0))
+    }
+}
+
+impl<Durations> From<u32> for Ticks<Durations> {
+    ghost from_gives = { λ count ticks. ticks.0 ≡ count };
+
+    fn from(count: u32) -> Ticks<Durations> {
+        Ticks(count, PhantomData)
     }
 }
 

@@ -1,7 +1,7 @@
 // A call or a question on a sheet, with the answer that it must have.
 use common::Refusal;
 
-#[derive(Clone, Copy)]
+#[derive(Clone, Copy, Debug)]
 pub enum Step {
     // A new sheet, on which the next steps are made.
     New,

@@ -4,7 +4,7 @@ use crate::worked;
 use common::{Margin, Refusal};
 use sheet::Sheet;
 
-// Makes the step, and says whether it has its answer.
+// Makes the step, and says whether it has its answer. Steps are data, not closures: the definitions read them.
 fn right(sheet: &mut Sheet, step: Step) -> bool {
     match step {
         Step::New => {

@@ -7,7 +7,7 @@ ghost use Rattle.std.specs.Option.{option_map_or};
 ghost use Rattle.std.specs.Prelude.{Some, codes};
 
 use common::{MOST, Margin};
-use sheet::{Call, Kind, Sheet, Task};
+use sheet::{Call, Sheet, Task};
 use std::{fmt, io};
 use week::{BUS_GROUP, NAMES, RF_GROUP};
 
@@ -59,10 +59,7 @@ fn print_task(rt: &impl Print, sheet: &Sheet, t: u8) -> io::Result<()> {
         kind,
         before,
     } = task;
-    let deadline = OrDash(match kind {
-        Kind::Hard(deadline) => Some(deadline),
-        _ => None,
-    });
+    let deadline = OrDash(kind.deadline());
     let left = OrDash(margin.map(|Margin(left)| left));
     print!(rt;
         "{t:>4}  {name:<15} {min:>5} {max:>5} {expected:>8}  {kind:<5}{deadline:>9}{left:>9}"

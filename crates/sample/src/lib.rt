@@ -12,7 +12,7 @@ use common::{Expected, MOST};
 mod tests;
 
 // Every task is worth the same up to a time, and then nothing.
-#[derive(Clone, Copy)]
+#[derive(Clone, Copy, Debug)]
 pub struct FlatBook {
     worth: u32,
     until: u32,

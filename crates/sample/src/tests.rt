@@ -8,16 +8,16 @@ fn a_new_kind_is_layered_like_any_other(rt: HostRuntime) {
     let mut standard = StandardBook::new();
     assert!(rt; standard.ramp(0, 10, 0, 3).is_ok());
     let flat = FlatBook::new(7, 2);
-    assert!(rt; beside(flat, &standard, 0, Expected::of(1)) == 13);
+    assert!(rt; beside(flat, &standard, 0, Expected::from(1)) == 13);
     let mut layers = Weighted::over(Sum {
         first: standard,
         second: Weighted::over(flat),
     });
     assert!(rt; layers.weight(0, 3).is_ok() && layers.inner.second.weight(0, 2).is_ok());
-    assert!(rt; layers.worth(0, Expected::of(1)) == 60);
-    assert!(rt; layers.worth(0, Expected::of(2)) == 51);
-    assert!(rt; layers.worth(0, Expected::of(3)) == 0);
-    assert!(rt; layers.worth(16, Expected::of(0)) == 0);
+    assert!(rt; layers.worth(0, Expected::from(1)) == 60);
+    assert!(rt; layers.worth(0, Expected::from(2)) == 51);
+    assert!(rt; layers.worth(0, Expected::from(3)) == 0);
+    assert!(rt; layers.worth(16, Expected::from(0)) == 0);
     assert!(rt; last_worth(&layers, 0) == 0);
     assert!(rt; last_worth(&FlatBook::new(2000000, u32::MAX), 15) == 1000000);
 }

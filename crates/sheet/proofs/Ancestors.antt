@@ -1,10 +1,10 @@
 -- Up-sets gathered one after another, and what makes the descent end. Assumes nothing.
-use Rattle.std.proofs.Common.{◌≡◌, sym, subst, Bool, true, ◌&&◌, ◌||◌, inl, inr, ⊎_elim, ℕ, ◌<◌, arith, eqb, eqb-true, eq-eqb, length}
-use Rattle.std.proofs.lemmas.Bool.{cases_Bool, or_cases, or_left, or_right, and_parts, and_from}
-use Rattle.std.proofs.lemmas.Bool.Decides.{same_from_decides}
-use Rattle.common.proofs.Sets.{has-none, any-true, any-from, sum-less}
+use Rattle.std.proofs.Common.{◌≡◌, Bool, true, ◌&&◌, ◌||◌, inl, inr, ⊎_elim, ℕ, ◌<◌, arith, eqb, length}
+use Rattle.std.proofs.lemmas.Bool.{false_from_ne_true}
+use Rattle.std.proofs.lemmas.Bool.Decides.{Decides-and, Decides-eqb, Decides-like, Decides-or, same_from_decides}
+use Rattle.common.proofs.Sets.{has-none, any-decides, sum-less}
 use Rattle.common.specs.Sets.{has, any, sum_where}
-use Rattle.sheet.proofs.Paths.{Up, join, onward, last-link, reaches-decides, up-decides}
+use Rattle.sheet.proofs.Paths.{Up, join, climb, last-link, reaches-decides, up-decides}
 use Rattle.sheet.specs.Links.{one, more, Closed, linked, reaches, up}
 use Rattle.sheet.specs.Rules.{Acyclic, Known}
 use Rattle.sheet.specs.Tables.{Table}
@@ -15,7 +15,7 @@ ancestors t x = sum_where (λ u. reaches t u x) (λ _. 1) (length t)
 
 -- a set that is closed has the up-set of each of its members
 pub closed-up : (t : Table) (s : ℕ) → Closed t s → {u x : ℕ} → Up t u x → has s x ≡ true → has s u ≡ true
-closed-up t s closed (inl e) h = subst (λ z. has s z ≡ true) (sym e) h
+closed-up t s closed (inl e) h = rw e h
 closed-up t s closed {u} {x} (inr (one l)) h = closed u x l h
 closed-up t s closed {u} (inr (more {c = c} l p)) h = closed u c l (closed-up t s closed (inr p) h)
 
@@ -24,8 +24,8 @@ pub fewer : (t : Table) → Known t → Acyclic t → (p x : ℕ) → linked t p
 unfolding ancestors
 fewer t known acyclic p x l =
     let test = reaches-decides t known in
-    sum-less (λ u. reaches t u p) (λ u. reaches t u x) (λ _. 1) (λ u e. (test u x).1 (join t ((test u p).0 e) (one l))) (length t) p ((known p x l).0)
-    (⊎_elim (λ e. absurd (acyclic p ((test p p).0 e))) (λ e. e) (cases_Bool (reaches t p p)))
+    sum-less _ _ (λ _. 1) (λ u e. (test u x).1 (join t ((test u p).0 e) (one l))) (length t) p (known p x l).0
+    (false_from_ne_true _ (λ e. acyclic p ((test p p).0 e)))
     ((test p x).1 (one l))
     (omega arith)
 
@@ -34,22 +34,14 @@ module _ (t : Table) (known : Known t) where
   pub up-by-links : (u x : ℕ) → up t u x ≡ (eqb u x || any (length t) (λ q. linked t q x && up t u q))
   up-by-links u x =
       let test = up-decides t known in
-      same_from_decides _ _ (test u x) (
-        λ e. ⊎_elim
-            (λ h. inl (eqb-true u x h))
-            (λ h. let f = any-from (length t) (λ q. linked t q x && up t u q) h in
-            let b = and_parts (linked t f.0 x) (up t u f.0) f.2 in
-            inr (⊎_elim (λ s. one (subst (λ z. linked t z x ≡ true) (sym s) b.0)) (λ p. join t p (one b.0)) ((test u f.0).0 b.1)))
-            (or_cases (eqb u x) _ e),
-        λ h. ⊎_elim
-            (λ e. or_left _ _ (eq-eqb u x e))
-            (λ p. let s = last-link t p in
-            or_right (eqb u x) _ (any-true (length t) (λ q. linked t q x && up t u q) s.0 ((known s.0 x s.2).0) (and_from _ _ s.2 ((test u s.0).1 s.1))))
-            h,
-      )
+      let last = any-decides (length t) _ (λ q. (linked t q x ≡ true) × Up t u q) (λ q. Decides-and (linked t q x) (up t u q) (λ e. e, λ e. e) (test u q)) in
+      same_from_decides _ _ (test u x) (Decides-like _
+      (⊎_elim inl (λ f. climb t f.2.1 (inr (one f.2.0))))
+      (⊎_elim inl (λ p. let s = last-link t p in inr (s.0, (known s.0 x s.2).0, (s.2, s.1))))
+      (Decides-or (eqb u x) _ (Decides-eqb u x) last))
 
 pub up-linked : (t : Table) → Known t → (a b x : ℕ) → linked t a b ≡ true → up t b x ≡ true → up t a x ≡ true
-up-linked t known a b x l h = (up-decides t known a x).1 (inr (onward t l ((up-decides t known b x).0 h)))
+up-linked t known a b x l h = (up-decides t known a x).1 (climb t (inr (one l)) ((up-decides t known b x).0 h))
 
 pub up-there : (t : Table) → Known t → (s : ℕ) → Closed t s → (u x : ℕ) → has s x ≡ true → up t u x ≡ true → has s u ≡ true
 up-there t known s closed u x h e = closed-up t s closed ((up-decides t known u x).0 e) h

@@ -1,31 +1,44 @@
--- `==` finds the same tables, and under the rules of a sheet those that are alike. Assumes nothing.
-use Rattle.std.proofs.Common.{◌≡◌, sym, ap, ap₂, ◌∙◌, Bool, false, ◌&&◌, ◌==◌, ◌++◌, ⊎_elim, ℕ, ◌-◌, ◌≤◌, ◌<◌, arith, eqb-true, eq-eqb, length, replicate, take, Decides}
-use Rattle.std.proofs.lemmas.Bool.{and_from, and_parts, cases_Bool, cases_lt}
+-- `==` finds the equal sheets, and those with the same table, and under the rules of a sheet those that are alike. Assumes nothing.
+use Rattle.std.proofs.Common.{◌≡◌, sym, ap, ap₂, ◌∙◌, Bool, ◌&&◌, ◌==◌, ◌++◌, ℕ, ◌-◌, ◌<◌, arith, length, replicate, take, Decides}
+use Rattle.std.proofs.lemmas.Bool.Decides.{Decides-and, Decides-at, Decides-eqb, Decides-like, nat_tests}
 use Rattle.std.proofs.lemmas.List.{get_or_default, same_lists}
 use Rattle.common.proofs.Sets.{same-set}
 use Rattle.sheet.proofs.Tables.{len-back, tasks-back}
 use Rattle.sheet.specs.Links.{linked}
-use Rattle.sheet.specs.Lists.{listed}
 use Rattle.sheet.specs.Rules.{Alike, Known}
+use Rattle.sheet.specs.Sheets.{table}
 use Rattle.sheet.specs.Tables.{Table, blank, task_of}
+use Rattle.sheet.specs.contracts.sheet.Sheet as sheet
+use Rattle.sheet.specs.contracts.table.Table as places
+use Rattle.sheet.specs.contracts.table.Task as task
 use Rattle.sheet.specs.contracts.table.TaskExact.TheImpl.Laws.{exact-law}
-use Rattle.sheet.specs.contracts.table.TaskPartialEq.TheImpl.{eq-value as task}
-use Rattle.sheet.specs.declared.table.Table.{Table as Places}
+use Rattle.sheet.specs.contracts.table.TaskPartialEq.TheImpl.{eq-value as task-eq}
+use Rattle.sheet.specs.declared.sheet.Sheet.{Sheet}
 use Rattle.sheet.specs.declared.table.Task.{Task}
+use denote.Struct.Record.{values_one}
 use lib.Pointwise.{pointwise, pointwise_decides}
 
--- ---- what `==` computes of tables
+-- ---- what `==` computes: it compares the places
 
-pub places-decide : (p q : Places) (b : Bool) → b ≡ ((p.len == q.len) && pointwise task.it p.tasks q.tasks) → Decides b (listed p ≡ listed q)
-places-decide p q b e = (
-  λ h.
-      let both = and_parts (p.len == q.len) _ (sym e ∙ h) in
-      ap₂ take (eqb-true _ _ both.0) ((pointwise_decides exact-law p.tasks q.tasks).0 both.1),
-  λ h.
-      let len : p.len ≡ q.len = sym (len-back p) ∙ ap length h ∙ len-back q in
-      let tasks : p.tasks ≡ q.tasks = sym (tasks-back p) ∙ ap₂ (λ xs n. xs ++ replicate (16 - n) blank) h len ∙ tasks-back q in
-      e ∙ and_from (p.len == q.len) _ (eq-eqb _ _ len) ((pointwise_decides exact-law p.tasks q.tasks).1 tasks),
-)
+same-sheets : (a b : Sheet) → a.table.len ≡ b.table.len → a.table.tasks ≡ b.table.tasks → a ≡ b
+same-sheets a b len tasks =
+    let same : a.table ≡ b.table = values_one places.struct (places.the_propositions task.the_row.coded) a.table b.table (λ i. (len i, (tasks i, tt))) in
+    values_one sheet.struct (sheet.the_propositions places.the_row.coded) a b (ap (λ p. (p, tt)) same)
+
+module _ (a b : Sheet) (r : Bool) (is : r ≡ ((a.table.len == b.table.len) && pointwise task-eq.it a.table.tasks b.table.tasks)) where
+  parts : Decides r ((a.table.len ≡ b.table.len) × (a.table.tasks ≡ b.table.tasks))
+  parts = Decides-at r _ is (Decides-and (a.table.len == b.table.len) _ (Decides-eqb _ _) (pointwise_decides exact-law _ _))
+
+  pub same-decides : Decides r (a ≡ b)
+  same-decides = Decides-like _ (λ h. same-sheets a b h.0 h.1) (λ e. (ap (λ (s : Sheet). s.table.len) e, ap (λ (s : Sheet). s.table.tasks) e)) parts
+
+  pub tables-decide : Decides r (table a ≡ table b)
+  tables-decide = Decides-like _ (λ h. ap₂ take h.0 h.1) back parts
+    where
+      back : table a ≡ table b → (a.table.len ≡ b.table.len) × (a.table.tasks ≡ b.table.tasks)
+      back h =
+          let len : a.table.len ≡ b.table.len = sym (len-back a.table) ∙ ap length h ∙ len-back b.table in
+          (len, sym (tasks-back a.table) ∙ ap₂ (λ xs n. xs ++ replicate (16 - n) blank) h len ∙ tasks-back b.table)
 
 -- ---- alike tables
 
@@ -36,10 +49,7 @@ module _ (s t : Table) (p : Known s) (q : Known t) where
   -- the direct predecessors are the same set, for none is at or above the count
   same-before : Alike s t → (k : ℕ) → k < length s → (task_of s k).before.0 ≡ (task_of t k).before.0
   unfolding linked
-  same-before a k lt = same-set _ _ (λ u. ⊎_elim (λ l. a.links u k l lt) (λ ge. none-from s p u k ge ∙ sym (none-from t q u k (omega (arith, a.count)))) (cases_lt u (length s)))
-    where
-      none-from : (v : Table) → Known v → (u k : ℕ) → length v ≤ u → linked v u k ≡ false
-      none-from v known u k ge = ⊎_elim (λ l. absurd (omega (arith, (known u k l).0))) (λ e. e) (cases_Bool (linked v u k))
+  same-before a k lt = same-set _ _ (λ u. grind (arith, nat_tests, a.links u k, p u k, q u k, a.count))
 
   pub alike-same : Alike s t → s ≡ t
   alike-same a =
@@ -48,11 +58,4 @@ module _ (s t : Table) (p : Known s) (q : Known t) where
       ∙ get_or_default t k blank d (omega (arith, a.count)))
 
 pub same-alike : (s t : Table) → s ≡ t → Alike s t
-same-alike s t e =
-    record {
-      count = ap length e;
-      least = λ k _. ap (λ v. (task_of v k).min) e;
-      most = λ k _. ap (λ v. (task_of v k).max) e;
-      kinds = λ k _. ap (λ v. (task_of v k).kind) e;
-      links = λ a b _ _. ap (λ v. linked v a b) e;
-    }
+same-alike s t e = record { count = cc; least = λ k _. cc; most = λ k _. cc; kinds = λ k _. cc; links = λ a b _ _. cc }

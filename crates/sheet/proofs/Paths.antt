@@ -1,6 +1,8 @@
 -- `reaches` is the test of a path, and what a link more or less does to paths. Assumes nothing.
-use Rattle.std.proofs.Common.{◌≡◌, refl, sym, subst, true, ◌&&◌, ◌⊎◌, inl, inr, ⊎_elim, ℕ, zero, suc, ◌<◌, arith, eqb, Decides, eqb-true, eq-eqb, length}
-use Rattle.std.proofs.lemmas.Bool.{or_cases, or_left, or_right, and_parts, and_from, cases_order}
+use Rattle.std.proofs.Common.{◌≡◌, refl, sym, true, ◌&&◌, ◌⊎◌, inl, inr, ⊎_elim, ℕ, zero, suc, ◌<◌, arith, eqb, Decides, length}
+use Rattle.std.proofs.lemmas.Bool.{or_cases, or_left, and_parts}
+use Rattle.std.proofs.lemmas.Bool.Decides.{Decides-eqb, Decides-or}
+use Rattle.std.proofs.lemmas.Grind.{common_steps}
 use Rattle.sheet.specs.Links.{Path, one, more, linked, via, reaches, up}
 use Rattle.sheet.specs.Rules.{Known}
 use Rattle.sheet.specs.Tables.{Table}
@@ -16,8 +18,13 @@ module _ (t : Table) where
 
   -- a link, then no link or a path
   pub onward : {a b c : ℕ} → linked t a b ≡ true → Up t b c → Path t a c
-  onward {a} l (inl e) = one (subst (λ z. linked t a z ≡ true) e l)
+  onward l (inl e) = one (rw (← e) l)
   onward l (inr p) = more l p
+
+  pub climb : {a b c : ℕ} → Up t a b → Up t b c → Up t a c
+  climb (inl e) q = rw e q
+  climb (inr p) (inl e) = inr (rw (← e) p)
+  climb (inr p) (inr q) = inr (join p q)
 
   -- a path, and its last link
   pub last-link : {u x : ℕ} → Path t u x → (q : ℕ) × Up t u q × (linked t q x ≡ true)
@@ -33,37 +40,10 @@ module _ (t : Table) where
       (λ both. let h = and_parts _ _ both in join (via-path k a k h.0) (via-path k k b h.1))
       (or_cases (via t k a b) (via t k a k && via t k k b) e)
 
-  via-more : (k a b : ℕ) → via t k a b ≡ true → via t (suc k) a b ≡ true
-  unfolding via
-  via-more k a b e = or_left _ _ e
-
-  via-through : (k a b : ℕ) → via t k a k ≡ true → via t k k b ≡ true → via t (suc k) a b ≡ true
-  unfolding via
-  via-through k a b e f = or_right (via t k a b) _ (and_from _ _ e f)
-
-  -- the two ways of a test that passes
-  via-cases : (k a b : ℕ) → via t (suc k) a b ≡ true → (via t k a b ≡ true) ⊎ ((via t k a k ≡ true) × (via t k k b ≡ true))
-  unfolding via
-  via-cases k a b e = ⊎_elim inl (λ both. inr (and_parts _ _ both)) (or_cases (via t k a b) (via t k a k && via t k k b) e)
-
-  via-to : (k a : ℕ) → via t (suc k) a k ≡ true → via t k a k ≡ true
-  via-to k a e = ⊎_elim (λ h. h) (λ h. h.0) (via-cases k a k e)
-
-  via-from : (k b : ℕ) → via t (suc k) k b ≡ true → via t k k b ≡ true
-  via-from k b e = ⊎_elim (λ h. h) (λ h. h.1) (via-cases k k b e)
-
   via-joins : (k a c b : ℕ) → c < k → via t k a c ≡ true → via t k c b ≡ true → via t k a b ≡ true
+  unfolding via
   via-joins zero a c b lt e f = absurd (omega arith)
-  via-joins (suc k) a c b lt e f =
-      ⊎_elim
-      (λ same. via-through k a b (via-to k a (subst (λ x. via t (suc k) a x ≡ true) same e)) (via-from k b (subst (λ x. via t (suc k) x b ≡ true) same f)))
-      (⊎_elim
-      (λ less. ⊎_elim
-      (λ ac. ⊎_elim (λ cb. via-more k a b (via-joins k a c b less ac cb)) (λ cb. via-through k a b (via-joins k a c k less ac cb.0) cb.1) (via-cases k c b f))
-      (λ ac. ⊎_elim (λ cb. via-through k a b ac.0 (via-joins k k c b less ac.1 cb)) (λ cb. via-through k a b ac.0 cb.1) (via-cases k c b f))
-      (via-cases k a c e))
-      (λ gt. absurd (omega arith)))
-      (cases_order c k)
+  via-joins (suc k) a c b lt e f = grind (arith, common_steps, via-joins k a c b, via-joins k a c k, via-joins k k c b)
 
   via-link : (k a b : ℕ) → linked t a b ≡ true → via t k a b ≡ true
   unfolding via
@@ -82,10 +62,7 @@ module _ (t : Table) where
 
     pub up-decides : (u x : ℕ) → Decides (up t u x) (Up t u x)
     unfolding up
-    up-decides u x = (
-      λ e. ⊎_elim (λ h. inl (eqb-true u x h)) (λ h. inr ((reaches-decides u x).0 h)) (or_cases (eqb u x) (reaches t u x) e),
-      λ h. ⊎_elim (λ e. or_left _ _ (eq-eqb u x e)) (λ p. or_right (eqb u x) _ (reached p)) h,
-    )
+    up-decides u x = Decides-or (eqb u x) (reaches t u x) (Decides-eqb u x) (reaches-decides u x)
 
 -- where each link of t is a path of t', so is each path
 pub carried : (t t' : Table) → ((a b : ℕ) → linked t a b ≡ true → Path t' a b) → {a b : ℕ} → Path t a b → Path t' a b
@@ -99,16 +76,9 @@ module _ (t t' : Table) (p q : ℕ) (new : (a b : ℕ) → linked t' a b ≡ tru
   wider (more {a = a} {c = c} {b = b} l r) =
       ⊎_elim
       (λ old. ⊎_elim (λ s. inl (more old s)) (λ s. inr (inr (onward t old s.0), s.1)) (wider r))
-      (λ is. inr (inl is.0, ⊎_elim (λ s. inr (subst (λ x. Path t x b) is.1 s)) (λ s. s.1) (wider r)))
+      (λ is. inr (inl is.0, ⊎_elim (λ s. inr (rw (← is.1) s)) (λ s. s.1) (wider r)))
       (new a c l)
 
   -- so where q is not above p, no circle is closed
   pub still-acyclic : ((k : ℕ) → Path t k k → ⊥) → (Up t q p → ⊥) → (k : ℕ) → Path t' k k → ⊥
-  still-acyclic acyclic off k c =
-      ⊎_elim
-      (acyclic k)
-      (λ s. off (⊎_elim
-      (λ e. subst (λ x. Up t q x) e s.1)
-      (λ v. inr (⊎_elim (λ f. subst (λ x. Path t x p) (sym f) v) (λ w. join t w v) s.1))
-      s.0))
-      (wider c)
+  still-acyclic acyclic off k c = ⊎_elim (acyclic k) (λ s. off (climb t s.1 s.0)) (wider c)

@@ -4,10 +4,12 @@
 --     verdict    t c    0 where the call is accepted, else the number of its refusal
 --     changed    t c    the table after the call, where it is accepted
 --     after      t c    the table after the call: as it was, where the call is refused
+--     Asked t k P r     what every question about one task promises
 --     Called t t' c n   the call c on the table t answers n and leaves t'
 --     new_number t c    the number of the task that an accepted call adds; absent for a call that adds none
-use Rattle.std.specs.Prelude.{Bool, not, ◌&&◌, ◌||◌, [], ◌∷◌, ◌++◌, ℕ, nat_le, length, set, if◌then◌else◌, Option, Some, None}
-use Rattle.common.specs.Refusals.{Answered, Rows, first_fit, kept_unless}
+use Rattle.std.specs.Prelude.{Bool, ◌≡◌, not, ◌&&◌, ◌||◌, [], ◌∷◌, ◌++◌, ℕ, ◌≤◌, ◌<◌, nat_le, length, set, Option, Some, None, Result, Ok, Err}
+use Rattle.common.specs.Refusals.{Answered, Rows, first_fit, kept_unless, number}
+use Rattle.common.specs.declared.refusal.Refusal.{Refusal}
 use Rattle.common.specs.Sets.{adding, removing}
 use Rattle.sheet.specs.Links.{linked, up}
 use Rattle.sheet.specs.Tables.{Table, task_of, is_soft, is_hard}
@@ -21,9 +23,10 @@ use Rattle.sheet.specs.declared.table.Task.{Task}
 abbrev pub unknown : Table → ℕ → Bool
 unknown t k = nat_le (length t) k
 
--- what a question about task k answers where none has the number, and else
-abbrev pub missing : Table → ℕ → ℕ
-missing t k = if unknown t k then 1 else 0
+-- the answer to a question about task k: P holds of it; or a refusal with 1, exactly where no task has the number
+abbrev pub Asked : {A : Type 0} → Table → ℕ → (A → Type 0) → Result A Refusal → Type 0
+Asked t k P (Ok x) = (k < length t) × P x
+Asked t k P (Err e) = (length t ≤ k) × (number e ≡ 1)
 
 abbrev pub lasts : ℕ → ℕ → Bool
 lasts min max = nat_le 1 min && (nat_le min max && nat_le max 65535)

@@ -1,4 +1,5 @@
 -- Margins: what is left of a deadline once all that must have ended by it has taken its maximum. Assumes nothing.
+--     deadline_of k    the deadline of a hard kind
 --     due_by d kind    the kind is hard, with a deadline of at most d
 --     needed t d u     u must have ended by d: it is in the up-set of a hard task whose deadline is at most d
 --     demand t d       the sum of the maxima of the tasks that must have ended by d
@@ -12,6 +13,11 @@ use Rattle.sheet.specs.Links.{up}
 use Rattle.sheet.specs.Tables.{Table, load_of, maximum_of, task_of}
 use Rattle.sheet.specs.declared.table.Kind.{Kind}
 use Rattle.sheet.specs.declared.table.Kind.TheVariants.{Plain, Soft, Hard}
+
+abbrev pub deadline_of : Kind → Option ℕ
+deadline_of Plain = None
+deadline_of Soft = None
+deadline_of (Hard d) = Some d
 
 abbrev pub due_by : ℕ → Kind → Bool
 due_by d Plain = false

@@ -28,11 +28,6 @@ maximum_of x = x.max
 abbrev pub load_of : (Task → ℕ) → Table → (ℕ → Bool) → ℕ
 load_of f t p = sum_where p (λ k. f (task_of t k)) (length t)
 
-abbrev pub is_plain : Kind → Bool
-is_plain Plain = true
-is_plain Soft = false
-is_plain (Hard d) = false
-
 abbrev pub is_soft : Kind → Bool
 is_soft Plain = false
 is_soft Soft = true

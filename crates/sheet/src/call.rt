@@ -1,4 +1,4 @@
-// A call that changes a sheet, as a value.
+// A call that changes a sheet, as a value: lists of calls are printed, and the prover computes with them.
 use std::fmt;
 
 #[derive(Clone, Copy, Debug, PartialEq, Eq)]

@@ -30,6 +30,7 @@ impl Sheet {
     ghost use Rattle.sheet.specs.Sheets.{table};
 
     // A sheet without tasks.
+    #[tactic(auto, using(crate::proofs::Rules::empty_sound))]
     pub fn new() -> Sheet
         ensures { table result ≡ [] }
     {

@@ -3,7 +3,7 @@ ghost use Rattle.std.specs.Prelude.{◌≡◌, ◌+◌, ◌-◌, ◌*◌, ◌<�
 ghost use Rattle.std.specs.Cmp.Rules.{comparing};
 ghost use Rattle.std.proofs.Common.{rules};
 ghost use Rattle.sheet.specs.Calls.{new_task};
-ghost use Rattle.sheet.specs.Margins.{due_by};
+ghost use Rattle.sheet.specs.Margins.{deadline_of, due_by};
 ghost use Rattle.sheet.specs.Tables.{blank, expected_of, maximum_of, task_of};
 
 use common::{Exact, Expected, Maximum, TaskSet};
@@ -30,7 +30,8 @@ pub struct Task {
     pub before: TaskSet,
 }
 
-// At most sixteen tasks: the first `len` places hold them, and the others are blank.
+// At most sixteen tasks: the first `len` places hold them, and the others are blank. No heap is used, and a sheet is copied whole.
+// It is no generic list, for the steps of a book too: calls of one would owe that its array's size is below 2^63.
 #[derive(Clone, Copy, Debug, PartialEq, Eq)]
 pub struct Table {
     len: u8,
@@ -41,14 +42,21 @@ pub struct Table {
 }
 
 impl Kind {
+    // The deadline of a hard kind.
+    pub fn deadline(self) -> Option<u32>
+        ensures { result ≡ deadline_of self }
+    {
+        match self {
+            Kind::Hard(deadline) => Some(deadline),
+            _ => None,
+        }
+    }
+
     // Whether this is hard, with a deadline of at most this one.
     pub fn due_by(self, deadline: u32) -> bool
         ensures { result ≡ due_by deadline self }
     {
-        match self {
-            Kind::Hard(last) => last <= deadline,
-            _ => false,
-        }
+        self.deadline().is_some_and(|last| last <= deadline)
     }
 }
 
@@ -95,7 +103,7 @@ impl Task {
         ensures value { result.0 ≡ expected_of self.now }
         ensures midpoint { (2 * result.0 ≤ self.now.min + self.now.max) × (self.now.min + self.now.max < 2 * result.0 + 2) }
     {
-        Expected::of((u32::from(self.min) + u32::from(self.max)) / 2)
+        Expected::from((u32::from(self.min) + u32::from(self.max)) / 2)
     }
 
     // How long the task takes at most.
@@ -103,7 +111,7 @@ impl Task {
     pub fn maximum(&self) -> Maximum
         ensures { result.0 ≡ maximum_of self.now }
     {
-        Maximum::of(u32::from(self.max))
+        Maximum::from(u32::from(self.max))
     }
 }
 
@@ -138,6 +146,7 @@ impl Table {
         self.tasks()[usize::from(t)]
     }
 
+    #[tactic(auto, using(crate::proofs::Tables::placing))]
     pub fn push(&mut self, task: Task)
         requires { length (listed self.old) < 16 }
         ensures { listed self.new ≡ listed self.old ++ task ∷ [] }
@@ -147,7 +156,7 @@ impl Table {
     }
 
     // Puts the task in place of task t.
-    #[tactic(auto, using(crate::proofs::Tables::listed_put, crate::proofs::Tables::clear_put))]
+    #[tactic(auto, using(crate::proofs::Tables::placing))]
     pub fn put(&mut self, t: u8, task: Task)
         requires { t < length (listed self.old) }
         ensures { listed self.new ≡ set (listed self.old) t task }

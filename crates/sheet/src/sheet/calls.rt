@@ -1,4 +1,4 @@
-// The calls that change a sheet.
+// The calls that change a sheet. Their arguments are plain numbers: types of their own could not hold what is refused.
 ghost use Rattle.std.specs.Prelude.{◌≡◌, IfErr, IfOk, IsFalse, IsTrue, length};
 ghost use Rattle.common.specs.Refusals.{outcome};
 ghost use Rattle.sheet.specs.Calls.{Called, lasts, task, time, link, cut, hard, soft, plain};
@@ -19,6 +19,7 @@ fn durations(min: u32, max: u32) -> Result<(u16, u16), Refusal>
     ensures refuses { IfErr result (λ e. IsFalse (lasts min max) × (e ≡ Refusal.Durations)) }
 {
     if 1 <= min && min <= max && max <= LONGEST {
+        // The casts are proved to keep both.
         return Ok((min as u16, max as u16));
     }
     Err(Refusal::Durations)
@@ -66,14 +67,16 @@ impl Sheet {
     }
 
     // Takes that direct link away; any other path from a to b stays.
+    #[tactic(auto, using(crate::proofs::Linking::answering), unfolding(crate::specs::Links::linked))]
     pub fn cut(&mut self, a: u8, b: u8) -> Result<(), Refusal>
         ensures called { Called (table self.old) (table self.new) (cut a b) (outcome result) }
         ensures means { Cutting (table self.old) (table self.new) a b }
     {
-        if !self.linked(a, b)? {
+        self.get(a)?;
+        let task = self.get(b)?;
+        if !task.before.contains(a) {
             return Err(Refusal::NoLink);
         }
-        let task = self.get(b)?;
         let before = task.before.without(a);
         self.table.put(b, Task { before, ..task });
         Ok(())
@@ -87,7 +90,7 @@ impl Sheet {
         if !(1..=LAST_DEADLINE).contains(&deadline) {
             return Err(Refusal::DeadlineRange);
         }
-        if let Kind::Soft = task.kind {
+        if task.kind == Kind::Soft {
             return Err(Refusal::OtherKind);
         }
         let kind = Kind::Hard(deadline);
@@ -100,7 +103,7 @@ impl Sheet {
         ensures { Called (table self.old) (table self.new) (soft t) (outcome result) }
     {
         let task = self.get(t)?;
-        if let Kind::Hard(_) = task.kind {
+        if matches!(task.kind, Kind::Hard(_)) {
             return Err(Refusal::OtherKind);
         }
         let kind = Kind::Soft;

@@ -27,11 +27,11 @@ impl Sheet {
         ensures expected { result.expected.0 ≡ load_of expected_of (table self.now) (has set.0) }
         ensures maximum { result.maximum.0 ≡ load_of maximum_of (table self.now) (has set.0) }
     {
-        let mut expected = Expected::of(0);
-        let mut maximum = Maximum::of(0);
-        for t in 0..self.count() {
-            if set.contains(t) {
-                let task = self.table.at(t);
+        let mut expected = Expected::from(0);
+        let mut maximum = Maximum::from(0);
+        for (t, task) in self.table.tasks().iter().enumerate() {
+            // An index below 16: the cast is proved to keep it.
+            if set.contains(t as u8) {
                 expected = expected.plus(task.expected());
                 maximum = maximum.plus(task.maximum());
             }

@@ -1,4 +1,4 @@
-// The calls by name.
+// Any call, given as a value.
 ghost use Rattle.std.specs.Prelude.{◌≡◌, IfOk};
 ghost use Rattle.common.specs.Refusals.{outcome};
 ghost use Rattle.sheet.specs.Calls.{Called, new_number};
@@ -14,6 +14,7 @@ impl Sheet {
         ensures called { Called (table self.old) (table self.new) call (outcome result) }
         ensures gives { IfOk result (λ number. number ≡ new_number (table self.old) call) }
     {
+        // Calls are data, not closures: the definitions read them.
         match call {
             Call::Task(min, max) => return self.task(min, max).map(Some),
             Call::Time(t, min, max) => self.time(t, min, max)?,

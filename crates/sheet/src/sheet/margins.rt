@@ -1,8 +1,7 @@
 // Margins: whether the deadlines can be met, and which of them is the tightest.
 ghost use Rattle.std.specs.Prelude.{◌≡◌, ◌↔◌, ℕ, slice_index_or, length, MatchOption, IfOk, IsTrue, None};
-ghost use Rattle.common.specs.Refusals.{outcome};
 ghost use Rattle.common.specs.Sets.{has};
-ghost use Rattle.sheet.specs.Calls.{missing};
+ghost use Rattle.sheet.specs.Calls.{Asked};
 ghost use Rattle.sheet.specs.Margins.{needed, margin_for, margin_of, Fits, Tightest};
 ghost use Rattle.sheet.specs.Sheets.{table};
 ghost use Rattle.sheet.specs.Tables.{task_of};
@@ -19,28 +18,27 @@ impl Sheet {
         ensures { (u : ℕ) → has result.0 u ≡ needed (table self.now) deadline u }
     {
         let mut all = TaskSet::EMPTY;
-        for h in 0..self.count() {
-            if self.table.at(h).kind.due_by(deadline) && !all.contains(h) {
-                all = self.gather(h, all);
+        for (h, task) in self.table.tasks().iter().enumerate() {
+            // An index below 16: the casts are proved to keep it.
+            if task.kind.due_by(deadline) && !all.contains(h as u8) {
+                all = self.gather(h as u8, all);
             }
         }
         all
     }
 
     // What is left of the deadline of a task of the kind; absent where it isn't hard.
+    #[tactic(auto, using(crate::proofs::Margins::demand_is))]
     fn margin_for(&self, kind: Kind) -> Option<Margin>
         ensures { result ≡ margin_for (table self.now) kind }
     {
-        let Kind::Hard(deadline) = kind else {
-            return None;
-        };
+        let deadline = kind.deadline()?;
         Some(self.load(self.needed(deadline)).margin(deadline))
     }
 
     // What is left of the deadline of task t; absent where the task isn't hard.
     pub fn margin(&self, t: u8) -> Result<Option<Margin>, Refusal>
-        ensures says { outcome result ≡ missing (table self.now) t }
-        ensures gives { IfOk result (λ m. m ≡ margin_of (table self.now) t) }
+        ensures gives { Asked (table self.now) t (λ m. m ≡ margin_of (table self.now) t) result }
         ensures alike { IfOk result (λ m. (u : ℕ) →
             (task_of (table self.now) u).kind ≡ (task_of (table self.now) t).kind → margin_of (table self.now) u ≡ m) }
     {
@@ -69,6 +67,7 @@ impl Sheet {
         ensures { MatchOption result ((k : ℕ) → margin_of (table self.now) k ≡ None) (Tightest (table self.now)) }
     {
         let t = first_present(&self.margins())?;
+        // An index below 16: the cast is proved to keep it.
         Some(t as u8)
     }
 }

@@ -1,7 +1,7 @@
 // What a sheet holds.
-ghost use Rattle.std.specs.Prelude.{◌≡◌, if◌then◌else◌, ◌||◌, ◌<◌, IfOk, OnOk, length};
-ghost use Rattle.common.specs.Refusals.{outcome};
-ghost use Rattle.sheet.specs.Calls.{missing, unknown};
+ghost use Rattle.std.specs.Prelude.{◌≡◌, ◌⊎◌, ◌<◌, ◌≤◌, MatchResult, length};
+ghost use Rattle.common.specs.Refusals.{number};
+ghost use Rattle.sheet.specs.Calls.{Asked};
 ghost use Rattle.sheet.specs.Links.{linked};
 ghost use Rattle.sheet.specs.Sheets.{table};
 ghost use Rattle.sheet.specs.Tables.{task_of};
@@ -20,9 +20,7 @@ impl Sheet {
 
     // Task t: its durations, its kind and its direct predecessors.
     pub fn get(&self, t: u8) -> Result<Task, Refusal>
-        ensures says { outcome result ≡ missing (table self.now) t }
-        ensures there { OnOk result (t < length (table self.now)) }
-        ensures gives { IfOk result (λ x. x ≡ task_of (table self.now) t) }
+        ensures { Asked (table self.now) t (λ x. x ≡ task_of (table self.now) t) result }
     {
         self.table
             .tasks()
@@ -34,8 +32,9 @@ impl Sheet {
     // Whether there is a direct link from a to b.
     #[tactic(auto, unfolding(crate::specs::Links::linked))]
     pub fn linked(&self, a: u8, b: u8) -> Result<bool, Refusal>
-        ensures says { outcome result ≡ (if unknown (table self.now) a || unknown (table self.now) b then 1 else 0) }
-        ensures gives { IfOk result (λ yes. yes ≡ linked (table self.now) a b) }
+        ensures { let t = table self.now in MatchResult result
+            (λ yes. (a < length t) × (b < length t) × (yes ≡ linked t a b))
+            (λ e. ((length t ≤ a) ⊎ (length t ≤ b)) × (number e ≡ 1)) }
     {
         self.get(a)?;
         Ok(self.get(b)?.before.contains(a))

@@ -1,8 +1,7 @@
 // The up-set of a task: t with the up-sets of all tasks linked to t.
 ghost use Rattle.std.specs.Prelude.{◌≡◌, false, ◌||◌, ◌⊎◌, ◌↔◌, ℕ, ◌<◌, IfOk, IsTrue, length};
-ghost use Rattle.common.specs.Refusals.{outcome};
 ghost use Rattle.common.specs.Sets.{has};
-ghost use Rattle.sheet.specs.Calls.{missing};
+ghost use Rattle.sheet.specs.Calls.{Asked};
 ghost use Rattle.sheet.specs.Links.{Path, Closed, up};
 ghost use Rattle.sheet.specs.Sheets.{table};
 
@@ -31,8 +30,7 @@ impl Sheet {
 
     #[tactic(auto, using(crate::proofs::Ancestors::climbing))]
     pub fn up_set(&self, t: u8) -> Result<TaskSet, Refusal>
-        ensures says { outcome result ≡ missing (table self.now) t }
-        ensures gives { IfOk result (λ s. (u : ℕ) → has s.0 u ≡ up (table self.now) u t) }
+        ensures gives { Asked (table self.now) t (λ s. (u : ℕ) → has s.0 u ≡ up (table self.now) u t) result }
         ensures paths { IfOk result (λ s. (u : ℕ) → IsTrue (has s.0 u) ↔ ((u ≡ t) ⊎ Path (table self.now) u t)) }
     {
         self.get(t)?;

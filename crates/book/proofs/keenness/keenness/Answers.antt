@@ -14,4 +14,4 @@ returns g c =
     let lt : c.args.t < length (table s) = grind (arith, common_steps) in
     let is : soft (table s) c.args.t ≡ true = grind (arith, common_steps) in
     let m = g.B.Book.meaning c.args.book.now in
-    keenness-is (table s) (sound-of s) m _ _ _ _ _ lt is (c.worth.ensures ∙ ap (m c.args.t) c.of.ensures) c.loads.ensures.expected (grind (arith, common_steps)) c.new.ensures
+    keenness-is (table s) (sound-of s) m _ _ _ _ _ lt is (c.worth.ensures ∙ ap (m c.args.t) c.from.ensures) c.loads.ensures.expected (grind (arith, common_steps)) c.new.ensures

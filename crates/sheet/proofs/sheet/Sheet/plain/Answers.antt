@@ -1,11 +1,8 @@
-use Rattle.std.proofs.Common.{ap, ◌∙◌, arith, set}
+use Rattle.std.proofs.Common.{arith}
 use Rattle.std.proofs.lemmas.Grind.{common_steps}
-use Rattle.sheet.specs.Calls.{plain, with_kind}
-use Rattle.sheet.specs.declared.table.Kind.TheVariants.{Plain}
+use Rattle.sheet.specs.Calls.{plain}
 use Rattle.sheet.proofs.Kept.{kept}
-use Rattle.sheet.specs.Sheets.{table}
 use Rattle.sheet.proofs.sheet.Sheet.plain.Goals as goal
 
 pub invariant_of-self : goal.invariant_of-self
-invariant_of-self c =
-    kept c.args.self.now (plain c.args.t) _ (c.put.ensures ∙ ap (λ x. set (table c.args.self.now) c.args.t (with_kind Plain x)) c.in_ok-task.ensures.gives) (grind (arith, common_steps))
+invariant_of-self c = kept c.args.self.now (plain c.args.t) _ (grind (arith, common_steps))

@@ -1,10 +1,8 @@
-use Rattle.std.proofs.Common.{[], ap, ◌∙◌, ◌∷◌, ◌++◌, arith}
+use Rattle.std.proofs.Common.{arith}
 use Rattle.std.proofs.lemmas.Grind.{common_steps}
 use Rattle.sheet.specs.Calls.{task}
 use Rattle.sheet.proofs.Kept.{kept}
-use Rattle.sheet.specs.Sheets.{table}
 use Rattle.sheet.proofs.sheet.Sheet.task.Goals as goal
 
 pub invariant_of-self : goal.invariant_of-self
-invariant_of-self c =
-    kept c.args.self.now (task c.in_ok-min.min c.in_ok-min.max) _ (c.push.ensures ∙ ap (λ x. (table c.args.self.now) ++ x ∷ []) c.plain.ensures) (grind (arith, common_steps))
+invariant_of-self c = kept c.args.self.now (task c.in_ok-min.min c.in_ok-min.max) _ (grind (arith, common_steps))

@@ -1,10 +1,12 @@
 use Rattle.std.proofs.lemmas.Bool.Decides.{Decides-like}
-use Rattle.sheet.proofs.Equal.{alike-same, places-decide, same-alike}
+use Rattle.sheet.proofs.Equal.{alike-same, same-alike, same-decides, tables-decide}
 use Rattle.sheet.proofs.sheet.equal.equal_sheets.Goals as goal
 
 pub returns-clause-same : goal.returns-clause-same
-returns-clause-same c = places-decide c.args.a.now.table c.args.b.now.table _ c.eq.ensures
+returns-clause-same c = same-decides c.args.a.now c.args.b.now _ c.eq.ensures
 
 pub returns-clause-alike : goal.returns-clause-alike
 returns-clause-alike c =
-    Decides-like _ (same-alike _ _) (alike-same _ _ c.args.a.now.known c.args.b.now.known) (places-decide c.args.a.now.table c.args.b.now.table _ c.eq.ensures)
+    let a = c.args.a.now in
+    let b = c.args.b.now in
+    Decides-like _ (same-alike _ _) (alike-same _ _ a.known b.known) (tables-decide a b _ c.eq.ensures)
