@@ -1,5 +1,5 @@
-// Where a task stands in a list of sixteen. Ramps, steps and weights each have such a list of their own: calls of a generic type that
-// holds an array of its parameter would owe that the array's size is below 2^63.
+// Where a task stands in a list of sixteen. Ramps, steps and weights each have such an array: this guard comes before their rules and the
+// write after them, so that a generic list with a guard of its own would test twice, and have no more than an array has.
 ghost use Rattle.std.specs.Prelude.{◌≡◌, ◌≤◌, ◌<◌, MatchResult};
 ghost use Rattle.common.specs.declared.refusal.Refusal.TheVariants.{UnknownTask};
 

@@ -38,7 +38,7 @@ pub fn first_best<R: Rank>(ranks: &[R]) -> Option<usize>
     if ranks.is_empty() {
         return None;
     }
-    // The index is the answer, so the loop counts it.
+    // The index is the answer; by `reduce` over the indices the proof does not close.
     let mut best = 0;
     for i in 1..ranks.len() {
         if ranks[i].better(&ranks[best]) {

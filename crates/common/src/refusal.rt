@@ -35,6 +35,7 @@ impl Refusal {
     pub fn number(self) -> u8
         ensures { result ≡ number self }
     {
+        // An enum gives its number by a cast alone.
         self as u8
     }
 }

@@ -31,7 +31,8 @@ pub struct Task {
 }
 
 // At most sixteen tasks: the first `len` places hold them, and the others are blank. No heap is used, and a sheet is copied whole.
-// It is no generic list, for the steps of a book too: calls of one would owe that its array's size is below 2^63.
+// A generic list, for the steps of a book too, would need a trait for what is blank, and `Clone` by hand, for two methods of a line. An
+// `impl Model` would keep a sheet that is passed by value from being used again.
 #[derive(Clone, Copy, Debug, PartialEq, Eq)]
 pub struct Table {
     len: u8,

@@ -20,6 +20,7 @@ impl Sheet {
     {
         let before = self.table.at(t).before;
         let mut all = found;
+        // Over the numbers: an iterator over a set's members, with its laws, would be no plainer.
         for p in 0..self.count() {
             if before.contains(p) && !all.contains(p) {
                 all = self.gather(p, all);
