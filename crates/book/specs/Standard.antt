@@ -2,9 +2,7 @@
 --     contents x           what a standard book holds
 --     worth_of c           what these contents mean
 --     rows c call          the refusals that the call may get, by number, each with the test whether it fits
---     verdict c call       0 where the call is accepted, else the number of its refusal
 --     changed c call       the contents after the call, where it is accepted
---     after c call         the contents after the call: as they were, where it is refused
 --     Called c c' call n   the call answers n and leaves c'
 --     Alike c d            each task has the same ramp, the same steps and the same weight
 use Rattle.std.specs.Prelude.{List, ◌≡◌, ℕ, ◌<◌, set, Option}
@@ -16,7 +14,7 @@ use Rattle.book.specs.Worths.{Meaning, added, weighed}
 use Rattle.book.specs.declared.ramp.Ramp.{Ramp}
 use Rattle.book.specs.declared.standard.StandardBook.{StandardBook}
 use Rattle.book.specs.declared.step.Step.{Step}
-use Rattle.common.specs.Refusals.{Answered, Rows, first_fit, kept_unless}
+use Rattle.common.specs.Refusals.{Answered, Rows}
 
 pub record Contents : Type 0 where
   pub ramps : List (Option Ramp)
@@ -46,17 +44,11 @@ rows c (step k until worth) = step_rows c.steps k until worth
 rows c (drop_steps k) = drop_rows k
 rows c (weight k w) = weight_rows k w
 
-abbrev pub verdict : Contents → Call → ℕ
-verdict c call = first_fit (rows c call)
-
 abbrev pub changed : Contents → Call → Contents
 changed c (ramp k peak knee foot) = record c { ramps = ramped c.ramps k peak knee foot }
 changed c (step k until worth) = record c { steps = step_added c.steps k until worth }
 changed c (drop_steps k) = record c { steps = steps_dropped c.steps k }
 changed c (weight k w) = record c { weights = set c.weights k w }
-
-abbrev pub after : Contents → Call → Contents
-after c call = kept_unless (verdict c call) (changed c call) c
 
 abbrev pub Called : (c c' : Contents) (call : Call) (n : ℕ) → Type 0
 Called c c' call n = Answered (rows c call) (changed c call) c c' n

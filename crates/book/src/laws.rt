@@ -37,7 +37,8 @@ pub fn widest_product() -> (u32, u32)
     (book.worth(0, Expected::from(1)), last_worth(&book, 0))
 }
 
-// Equal books are the same value, and have the same curves and weights.
+// Equal books are the same value, and have the same curves and weights. A derived `==` has no clause of its own, so this says
+// what it finds.
 pub fn equal_books(a: &StandardBook, b: &StandardBook) -> bool
     ensures same { IsTrue result ↔ (a.now ≡ b.now) }
     ensures alike { IsTrue result ↔ Alike (contents a.now) (contents b.now) }

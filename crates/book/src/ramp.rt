@@ -18,8 +18,8 @@ pub struct Ramp {
     foot: u32,
 }
 
-// At most one ramp for each task. The rule of ramps is the book's: with it in `Ramp`, a definition could not write down the ramp that a call
-// sets.
+// At most one ramp for each task. The rule of ramps is the book's: with it in `Ramp`, a definition could not write down the
+// ramp that a call sets.
 #[derive(Clone, Copy, Debug, PartialEq, Eq)]
 pub struct RampBook {
     ramps: [Option<Ramp>; 16],

@@ -19,14 +19,14 @@ pub struct Weights {
 
 impl Weights {
     // Every weight is 1.
-    pub fn new() -> Weights
+    pub(crate) fn new() -> Weights
         ensures { result.list ≡ all_one }
     {
         Weights { list: [1; 16] }
     }
 
     // The weight of the task; 1 for a number above 15.
-    pub fn of(&self, t: u8) -> u32
+    pub(crate) fn of(&self, t: u8) -> u32
         ensures value { result ≡ weight_of self.now.list t }
         ensures light { result ≤ 16 }
     {
@@ -34,7 +34,7 @@ impl Weights {
     }
 
     #[tactic(auto, using(common::proofs::Refusals::fitting))]
-    pub fn put(&mut self, t: u8, weight: u32) -> Result<(), Refusal>
+    pub(crate) fn put(&mut self, t: u8, weight: u32) -> Result<(), Refusal>
         ensures answers { Answered (weight_rows t weight) (set self.old.list t weight)
             self.old.list self.new.list (outcome result) }
         ensures means { Reweighed self.old.list self.new.list t weight (outcome result) }

@@ -6,7 +6,8 @@
 --     margin_of t k    the deadline of task k less the demand at it; absent for a task that isn't hard
 --     Fits t           no margin is below 0
 --     Tightest t k     task k has the least margin, and no lower-numbered one has as little
-use Rattle.std.specs.Prelude.{◌≡◌, Bool, false, ◌&&◌, ℕ, ◌<◌, nat_le, pos, ◌-ℤ◌, ◌≤ℤ◌, ◌<ℤ◌, Option, Some, None, length}
+use Rattle.std.specs.Prelude.{◌≡◌, Bool, false, ◌&&◌, ℕ, ◌<◌, nat_le, pos, ◌-ℤ◌, ◌≤ℤ◌, ◌<ℤ◌, Option, Some, None, length, option_map}
+use Rattle.std.specs.Option.{option_map_or}
 use Rattle.common.specs.Sets.{any}
 use Rattle.common.specs.declared.ticks.Margin.{Margin}
 use Rattle.sheet.specs.Links.{up}
@@ -20,9 +21,7 @@ deadline_of Soft = None
 deadline_of (Hard d) = Some d
 
 abbrev pub due_by : ℕ → Kind → Bool
-due_by d Plain = false
-due_by d Soft = false
-due_by d (Hard last) = nat_le last d
+due_by d kind = option_map_or (λ last. nat_le last d) (deadline_of kind) false
 
 unfoldable pub needed : Table → ℕ → ℕ → Bool
 needed t d u = any (length t) (λ h. due_by d (task_of t h).kind && up t u h)
@@ -35,9 +34,7 @@ abbrev pub left_at : Table → ℕ → Margin
 left_at t d = record { 0 = pos d -ℤ pos (demand t d) }
 
 abbrev pub margin_for : Table → Kind → Option Margin
-margin_for t Plain = None
-margin_for t Soft = None
-margin_for t (Hard d) = Some (left_at t d)
+margin_for t kind = option_map (left_at t) (deadline_of kind)
 
 abbrev pub margin_of : Table → ℕ → Option Margin
 margin_of t k = margin_for t (task_of t k).kind

@@ -30,9 +30,9 @@ pub struct Task {
     pub before: TaskSet,
 }
 
-// At most sixteen tasks: the first `len` places hold them, and the others are blank. No heap is used, and a sheet is copied whole.
-// A generic list, for the steps of a book too, would need a trait for what is blank, and `Clone` by hand, for two methods of a line. An
-// `impl Model` would keep a sheet that is passed by value from being used again.
+// At most sixteen tasks: the first `len` places hold them, and the others are blank. No heap is used, and a sheet is copied
+// whole. A generic list, for the steps of a book too, would need a trait for what is blank, and `Clone` by hand, for two
+// methods of a line. An `impl Model` would keep a sheet that is passed by value from being used again.
 #[derive(Clone, Copy, Debug, PartialEq, Eq)]
 pub struct Table {
     len: u8,
@@ -119,7 +119,7 @@ impl Task {
 impl Table {
     ghost use Rattle.sheet.specs.Lists.{listed};
 
-    pub fn empty() -> Table
+    pub(crate) fn empty() -> Table
         ensures { listed result ≡ [] }
     {
         Table {
@@ -128,19 +128,19 @@ impl Table {
         }
     }
 
-    pub fn len(&self) -> u8
+    pub(crate) fn len(&self) -> u8
         ensures { result ≡ length (listed self.now) }
     {
         self.len
     }
 
-    pub fn tasks(&self) -> &[Task]
+    pub(crate) fn tasks(&self) -> &[Task]
         ensures { result.now ≡ listed self.now }
     {
         &self.tasks[0..usize::from(self.len)]
     }
 
-    pub fn at(&self, t: u8) -> Task
+    pub(crate) fn at(&self, t: u8) -> Task
         requires { t < length (listed self.now) }
         ensures { result ≡ task_of (listed self.now) t }
     {
@@ -148,7 +148,7 @@ impl Table {
     }
 
     #[tactic(auto, using(crate::proofs::Tables::placing))]
-    pub fn push(&mut self, task: Task)
+    pub(crate) fn push(&mut self, task: Task)
         requires { length (listed self.old) < 16 }
         ensures { listed self.new ≡ listed self.old ++ task ∷ [] }
     {
@@ -158,7 +158,7 @@ impl Table {
 
     // Puts the task in place of task t.
     #[tactic(auto, using(crate::proofs::Tables::placing))]
-    pub fn put(&mut self, t: u8, task: Task)
+    pub(crate) fn put(&mut self, t: u8, task: Task)
         requires { t < length (listed self.old) }
         ensures { listed self.new ≡ set (listed self.old) t task }
     {

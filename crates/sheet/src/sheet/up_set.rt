@@ -29,6 +29,7 @@ impl Sheet {
         all.with(t)
     }
 
+    // The up-set of task t.
     #[tactic(auto, using(crate::proofs::Ancestors::climbing))]
     pub fn up_set(&self, t: u8) -> Result<TaskSet, Refusal>
         ensures gives { Asked (table self.now) t (λ s. (u : ℕ) → has s.0 u ≡ up (table self.now) u t) result }
