@@ -17,10 +17,10 @@ use Rattle.sheet.specs.Tables.{Table, blank, expected_of, is_soft, load_of}
 
 module _ (t : Table) (r : Sound t) where
   -- a number that no task has is not soft
-  not-soft : (k : ℕ) → length t ≤ k → soft t k ≡ false
+  pub not-soft : (k : ℕ) → length t ≤ k → soft t k ≡ false
   not-soft k ge = ap (λ (x : Task). is_soft x.kind) (get_or_past t k blank ge)
 
-  soft-within : (k : ℕ) → soft t k ≡ true → k < length t
+  pub soft-within : (k : ℕ) → soft t k ≡ true → k < length t
   soft-within k e = let off = not-soft k in grind (arith, common_steps)
 
   -- the task itself is in its up-set, and takes time

@@ -8,7 +8,7 @@ use Rattle.std.specs.Option.{option_eq}
 use lib.Pointwise.{pointwise, pointwise_decides, bytes_decides}
 use denote.Struct.Record.{values_one}
 use Rattle.book.specs.Standard.{Alike, contents}
-use Rattle.book.specs.StepLists.{steps_in, used}
+use Rattle.book.specs.Lists.{steps_in, used}
 use Rattle.book.specs.Steps.{blank, steps_of}
 use Rattle.book.specs.declared.ramp.RampBook.{RampBook}
 use Rattle.book.specs.declared.standard.StandardBook.{StandardBook}

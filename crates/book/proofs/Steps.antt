@@ -4,7 +4,7 @@ use Rattle.std.specs.Option.{option_map_or}
 use Rattle.std.proofs.lemmas.Grind.{common_steps}
 use Rattle.std.proofs.lemmas.List.{get_or-map, length-map, map-set}
 use Rattle.common.specs.Refusals.{Answered}
-use Rattle.book.specs.StepLists.{steps_in, used}
+use Rattle.book.specs.Lists.{steps_in, used}
 use Rattle.book.specs.Steps.{Dropped, Stepped, a_step, descends, drop_rows, step_rows, in_limits, longer, step_added, step_meaning, stepped, steps_dropped, steps_of, steps_worth}
 use Rattle.book.specs.declared.step.Step.{Step}
 use Rattle.book.specs.declared.step.StepBook.{StepBook}

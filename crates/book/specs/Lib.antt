@@ -1,10 +1,11 @@
 pub mod Worths
 pub mod Ramps
 pub mod Steps
-pub mod StepLists
+pub mod Lists
 pub mod Weights
 pub mod Standard
 pub mod RampLaws
 pub mod StepLaws
 pub mod WorthLaws
 pub mod Keenest
+pub mod Texts

@@ -4,6 +4,7 @@ use Rattle.std.proofs.Math.Nat.{div-le_of_le-mul}
 use Rattle.std.proofs.lemmas.Grind.{common_steps}
 use Rattle.std.proofs.lemmas.List.{get_or_past}
 use Rattle.std.proofs.lemmas.Nat.{le-div}
+use Rattle.book.specs.Lists.{ramps_in}
 use Rattle.book.specs.Ramps.{keeps_rule, ramp_meaning, ramp_of, ramp_worth, slope}
 use Rattle.book.specs.Worths.{top, Sound}
 use Rattle.book.specs.declared.ramp.Ramp.{Ramp}
@@ -33,7 +34,7 @@ ramp-falls : (o : Option Ramp) (a b : ℕ) → keeps_rule o ≡ true → a ≤ b
 ramp-falls None a b ok h = omega arith
 ramp-falls (Some r) a b ok h = slope-falls r.peak r.knee r.foot (grind (arith, common_steps)) a b h
 
-pub ramps-sound : (x : RampBook) → Sound (ramp_meaning x.ramps)
+pub ramps-sound : (x : RampBook) → Sound (ramp_meaning (ramps_in x))
 ramps-sound x =
     record {
       bounded = λ task at. ramp-low (ramp_of x.ramps task) at (x.sound task);

@@ -2,7 +2,7 @@
 use Rattle.std.proofs.Common.{◌≡◌, refl, ap, true, List, [], ◌∷◌, ℕ, zero, suc, ◌≤◌, arith, map}
 use Rattle.std.proofs.lemmas.Grind.{common_steps}
 use Rattle.std.proofs.lemmas.List.{get_or_past, length-map}
-use Rattle.book.specs.StepLists.{steps_in, used}
+use Rattle.book.specs.Lists.{steps_in, used}
 use Rattle.book.specs.Steps.{in_limits, step_meaning, stepped, steps_of, steps_worth}
 use Rattle.book.specs.Worths.{top, Sound}
 use Rattle.book.specs.declared.step.Step.{Step}

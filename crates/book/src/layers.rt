@@ -1,5 +1,6 @@
 // Books over books.
 ghost use Rattle.std.specs.Prelude.{◌≡◌, set};
+ghost use Rattle.book.specs.Lists.{weights_in};
 ghost use Rattle.book.specs.Weights.{Reweighed, all_one, weight_of, weight_rows};
 ghost use Rattle.book.specs.Worths.{added, weighed};
 ghost use Rattle.book.specs.WorthLaws.{added-sound, weighed-sound};
@@ -27,7 +28,7 @@ impl<B> Weighted<B> {
     // The book with every weight 1.
     pub fn over(inner: B) -> Weighted<B>
         ensures inner { result.inner ≡ inner }
-        ensures weights { result.weights.list ≡ all_one }
+        ensures weights { weights_in result.weights ≡ all_one }
     {
         Weighted {
             inner,
@@ -37,9 +38,9 @@ impl<B> Weighted<B> {
 
     // Sets the weight of the task, from 1 to 16.
     pub fn weight(&mut self, t: u8, weight: u32) -> Result<(), Refusal>
-        ensures answers { Answered (weight_rows t weight) (set self.old.weights.list t weight)
-            self.old.weights.list self.new.weights.list (outcome result) }
-        ensures means { Reweighed self.old.weights.list self.new.weights.list t weight (outcome result) }
+        ensures answers { Answered (weight_rows t weight) (set (weights_in self.old.weights) t weight)
+            (weights_in self.old.weights) (weights_in self.new.weights) (outcome result) }
+        ensures means { Reweighed (weights_in self.old.weights) (weights_in self.new.weights) t weight (outcome result) }
         ensures inner { self.new.inner ≡ self.old.inner }
     {
         self.weights.put(t, weight)
@@ -58,9 +59,9 @@ impl<A: Book, B: Book> Book for Sum<A, B> {
 }
 
 impl<B: Book> Book for Weighted<B> {
-    ghost meaning = { λ x. weighed (weight_of x.weights.list) (B.meaning x.inner) };
+    ghost meaning = { λ x. weighed (weight_of (weights_in x.weights)) (B.meaning x.inner) };
 
-    ghost sound = { λ x. weighed-sound (weight_of x.weights.list) (B.sound x.inner) };
+    ghost sound = { λ x. weighed-sound (weight_of (weights_in x.weights)) (B.sound x.inner) };
 
     fn worth(&self, task: u8, at: Expected) -> u32 {
         let product = self.weights.of(task) * self.inner.worth(task, at);

@@ -2,6 +2,7 @@
 #![tactic(auto)]
 
 mod book;
+mod call;
 mod keenness;
 mod laws;
 mod layers;
@@ -12,6 +13,7 @@ mod step;
 mod weights;
 
 pub use book::{Book, LATEST, TOP};
+pub use call::Call;
 pub use keenness::keenest;
 pub use laws::{equal_books, kind_stands, last_worth, layers_stand, widest_product};
 pub use layers::{Sum, Weighted};

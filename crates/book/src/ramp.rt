@@ -48,9 +48,11 @@ impl Ramp {
 }
 
 impl RampBook {
+    ghost use Rattle.book.specs.Lists.{ramps_in};
+
     // A book without ramps.
     pub fn new() -> RampBook
-        ensures { result.ramps ≡ no_ramps }
+        ensures { ramps_in result ≡ no_ramps }
     {
         RampBook { ramps: [None; 16] }
     }
@@ -58,9 +60,9 @@ impl RampBook {
     // Gives the task a ramp, in place of the one that it may have.
     #[tactic(auto, using(common::proofs::Refusals::fitting))]
     pub fn ramp(&mut self, t: u8, peak: u32, knee: u32, foot: u32) -> Result<(), Refusal>
-        ensures answers { Answered (ramp_rows t peak knee foot) (ramped self.old.ramps t peak knee foot)
-            self.old.ramps self.new.ramps (outcome result) }
-        ensures means { Ramped self.old.ramps self.new.ramps t peak knee foot (outcome result) }
+        ensures answers { Answered (ramp_rows t peak knee foot) (ramped (ramps_in self.old) t peak knee foot)
+            (ramps_in self.old) (ramps_in self.new) (outcome result) }
+        ensures means { Ramped (ramps_in self.old) (ramps_in self.new) t peak knee foot (outcome result) }
     {
         let k = place(t)?;
         if peak > TOP || knee >= foot || foot > LATEST {
@@ -72,9 +74,10 @@ impl RampBook {
 }
 
 impl Book for RampBook {
+    ghost use Rattle.book.specs.Lists.{ramps_in};
     ghost use Rattle.book.specs.RampLaws.{ramps-sound};
 
-    ghost meaning = { λ x. ramp_meaning x.ramps };
+    ghost meaning = { λ x. ramp_meaning (ramps_in x) };
 
     ghost sound = { ramps-sound };
 

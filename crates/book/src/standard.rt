@@ -1,6 +1,7 @@
 // The standard book: ramps and steps added, and then weighed.
 ghost use Rattle.std.specs.Prelude.{◌≡◌};
 ghost use Rattle.book.specs.Standard.{Called, contents, drop_steps, nothing, ramp, step, weight, worth_of};
+ghost use Rattle.book.specs.Lists.{weights_in};
 ghost use Rattle.book.specs.RampLaws.{ramps-sound};
 ghost use Rattle.book.specs.StepLaws.{steps-sound};
 ghost use Rattle.book.specs.Weights.{weight_of};
@@ -8,6 +9,7 @@ ghost use Rattle.book.specs.WorthLaws.{added-sound, weighed-sound};
 ghost use Rattle.common.specs.Refusals.{outcome};
 
 use crate::book::Book;
+use crate::call::Call;
 use crate::layers::{Sum, Weighted};
 use crate::ramp::RampBook;
 use crate::step::StepBook;
@@ -60,12 +62,24 @@ impl StandardBook {
     {
         self.layers.weight(t, w)
     }
+
+    // Makes the call.
+    pub fn make(&mut self, call: Call) -> Result<(), Refusal>
+        ensures { Called (contents self.old) (contents self.new) call (outcome result) }
+    {
+        match call {
+            Call::Ramp(t, peak, knee, foot) => self.ramp(t, peak, knee, foot),
+            Call::Step(t, until, worth) => self.step(t, until, worth),
+            Call::DropSteps(t) => self.drop_steps(t),
+            Call::Weight(t, weight) => self.weight(t, weight),
+        }
+    }
 }
 
 impl Book for StandardBook {
     ghost meaning = { λ x. worth_of (contents x) };
 
-    ghost sound = { λ x. weighed-sound (weight_of x.layers.weights.list)
+    ghost sound = { λ x. weighed-sound (weight_of (weights_in x.layers.weights))
         (added-sound (ramps-sound x.layers.inner.first) (steps-sound x.layers.inner.second)) };
 
     fn worth(&self, task: u8, at: Expected) -> u32 {

@@ -40,7 +40,7 @@ pub struct StepBook {
 }
 
 impl Steps {
-    ghost use Rattle.book.specs.StepLists.{used};
+    ghost use Rattle.book.specs.Lists.{used};
 
     #[tactic(auto, unfolding(crate::specs::Steps::stepped))]
     fn new() -> Steps
@@ -100,7 +100,7 @@ impl Steps {
 }
 
 impl StepBook {
-    ghost use Rattle.book.specs.StepLists.{steps_in};
+    ghost use Rattle.book.specs.Lists.{steps_in};
 
     // A book without steps.
     pub fn new() -> StepBook
@@ -146,7 +146,7 @@ impl StepBook {
 }
 
 impl Book for StepBook {
-    ghost use Rattle.book.specs.StepLists.{steps_in};
+    ghost use Rattle.book.specs.Lists.{steps_in};
     ghost use Rattle.book.specs.StepLaws.{steps-sound};
 
     ghost meaning = { λ x. step_meaning (steps_in x) };

@@ -18,16 +18,18 @@ pub struct Weights {
 }
 
 impl Weights {
+    ghost use Rattle.book.specs.Lists.{weights_in};
+
     // Every weight is 1.
     pub(crate) fn new() -> Weights
-        ensures { result.list ≡ all_one }
+        ensures { weights_in result ≡ all_one }
     {
         Weights { list: [1; 16] }
     }
 
     // The weight of the task; 1 for a number above 15.
     pub(crate) fn of(&self, t: u8) -> u32
-        ensures value { result ≡ weight_of self.now.list t }
+        ensures value { result ≡ weight_of (weights_in self.now) t }
         ensures light { result ≤ 16 }
     {
         self.list.get(usize::from(t)).copied().map_or(1, u32::from)
@@ -35,9 +37,9 @@ impl Weights {
 
     #[tactic(auto, using(common::proofs::Refusals::fitting))]
     pub(crate) fn put(&mut self, t: u8, weight: u32) -> Result<(), Refusal>
-        ensures answers { Answered (weight_rows t weight) (set self.old.list t weight)
-            self.old.list self.new.list (outcome result) }
-        ensures means { Reweighed self.old.list self.new.list t weight (outcome result) }
+        ensures answers { Answered (weight_rows t weight) (set (weights_in self.old) t weight)
+            (weights_in self.old) (weights_in self.new) (outcome result) }
+        ensures means { Reweighed (weights_in self.old) (weights_in self.new) t weight (outcome result) }
     {
         let k = place(t)?;
         if !(1..=HEAVIEST).contains(&weight) {

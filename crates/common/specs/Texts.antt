@@ -1,5 +1,5 @@
--- What refusals print. Assumes nothing.
-use Rattle.std.specs.Prelude.{List, ℕ, codes}
+-- What refusals print, and the numbers of calls. Assumes nothing.
+use Rattle.std.specs.Prelude.{List, ℕ, ◌++◌, codes, decimal}
 use Rattle.common.specs.declared.refusal.Refusal.{Refusal}
 use Rattle.common.specs.declared.refusal.Refusal.TheVariants.{UnknownTask, SheetFull, Durations, Circle, NoLink, DeadlineRange, OtherKind, BookRule, StepsFull}
 
@@ -13,3 +13,7 @@ refusal_text DeadlineRange = codes "a deadline must keep 1 <= deadline <= 104857
 refusal_text OtherKind = codes "a soft task can't be marked hard, nor a hard one soft"
 refusal_text BookRule = codes "the ramp, the step or the weight breaks its rule"
 refusal_text StepsFull = codes "six steps are there"
+
+-- a space and the number
+abbrev pub spaced : ℕ → List ℕ
+spaced n = codes " " ++ decimal n

@@ -1,13 +1,18 @@
--- The tests of the worked list decide what the sheet's definitions say. Assumes nothing.
-use Rattle.std.proofs.Common.{◌≡◌, refl, sym, Bool, not, ◌&&◌, ⊎_elim, ℕ, ◌<◌, arith, pos, ◌≤ℤ◌, ◌<ℤ◌, Option, Some, None, length}
-use Rattle.std.proofs.lemmas.Bool.{cases_lt}
+-- The tests of the worked list decide what the definitions say. Assumes nothing.
+use Rattle.std.proofs.Common.{◌≡◌, refl, sym, ap, Bool, true, false, not, ◌&&◌, ⊎_elim, ℕ, ◌*◌, ◌≤◌, ◌<◌, arith, leb, ltb, pos, ◌≤ℤ◌, ◌<ℤ◌, Option, Some, None, length}
+use Rattle.std.proofs.lemmas.Bool.{cases_lt, not-true}
 use Rattle.std.proofs.lemmas.Bool.Decides.{Decides-and, Decides-below_and, Decides-like}
+use Rattle.std.proofs.lemmas.Grind.{common_steps}
 use Rattle.std.proofs.lemmas.Int.{ints}
 use Rattle.std.specs.Prelude.{Decides, is_none}
+use Rattle.book.proofs.Efforts.{effort-pos, not-soft, soft-within}
+use Rattle.book.specs.Keenest.{Keenest, effort, soft}
+use Rattle.book.specs.Worths.{Meaning}
 use Rattle.common.specs.Sets.{any}
 use Rattle.common.specs.declared.ticks.Margin.{Margin}
-use Rattle.known.specs.Worked.{Tests, smaller}
+use Rattle.known.specs.Worked.{Tests, is_keenest, none_soft, smaller}
 use Rattle.sheet.proofs.Margins.{no-margin}
+use Rattle.sheet.proofs.Rules.{Sound}
 use Rattle.sheet.specs.Margins.{margin_of, Tightest}
 use Rattle.sheet.specs.Tables.{Table}
 
@@ -54,5 +59,37 @@ module _ (t : Table) where
   none : Decides (not (any (length t) (λ k. not (is_none (margin_of t k))))) ((k : ℕ) → margin_of t k ≡ None)
   none = Decides-like _ (λ h k. ⊎_elim (h k) (no-margin t k) (cases_lt k (length t))) (λ h k lt. h k) (none-below (length t) _ _ (λ k. absent (margin_of t k)))
 
-pub standing : (t : Table) → Tests t
-standing t = record { fits = least t (record { 0 = pos 0 }); tightest = λ k. tightest t k (margin_of t k) refl; none = none t }
+-- ---- soft tasks: task k is the keenest, or none is
+
+module _ (t : Table) (r : Sound t) where
+  module _ (m : Meaning) (k : ℕ) where
+    no-keener : (u : ℕ) → Decides (not (soft t u && ltb (m k 0 * effort t u) (m u 0 * effort t k))) (soft t u ≡ true → m u 0 * effort t k ≤ m k 0 * effort t u)
+    no-keener u = (λ h s. grind (arith, common_steps), λ f. grind (arith, common_steps))
+
+    none-as-keen : (u : ℕ) → Decides (not (soft t u && leb (m k 0 * effort t u) (m u 0 * effort t k))) (soft t u ≡ true → m u 0 * effort t k < m k 0 * effort t u)
+    none-as-keen u = (λ h s. grind (arith, common_steps), λ f. grind (arith, common_steps))
+
+    keenest : Decides (is_keenest m t k) (Keenest m t k)
+    keenest =
+        Decides-like _
+        (λ h. record {
+          is_soft = h.0;
+          some = λ u s. effort-pos t r u (soft-within t r u s);
+          best = λ u s. h.1.0 u (soft-within t r u s) s;
+          lowest = λ u lt s. h.1.1 u lt s;
+        })
+        (λ p. (p.is_soft, (λ u lt. p.best u, λ u lt. p.lowest u lt)))
+        (Decides-and _ _ (λ e. e, λ e. e) (Decides-and _ _ (none-below (length t) _ _ no-keener) (none-below k _ _ none-as-keen)))
+
+  none-soft : Decides (none_soft t) ((k : ℕ) → soft t k ≡ false)
+  none-soft = Decides-like _ (λ h k. ⊎_elim (h k) (not-soft t r k) (cases_lt k (length t))) (λ h k lt. h k) (none-below (length t) _ _ (λ k. (not-true _, λ e. ap not e)))
+
+pub standing : (t : Table) → Sound t → Tests t
+standing t r =
+    record {
+      fits = least t (record { 0 = pos 0 });
+      tightest = λ k. tightest t k (margin_of t k) refl;
+      none_tight = none t;
+      keenest = keenest t r;
+      none_keen = none-soft t r;
+    }

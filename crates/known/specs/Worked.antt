@@ -1,12 +1,15 @@
--- Steps on a sheet, each with its answer. Assumes nothing.
---     right t s        the step s, on the table t, has the answer that it must have
---     next t s         the table after it, also where a call is refused
---     all_right t ss   each of the steps ss has it, one after another from the table t
-use Rattle.std.specs.Prelude.{◌≡◌, ℕ, Bool, true, not, ◌&&◌, List, [], ◌∷◌, pos, Some, None, Decides, Option, ◌==◌, int_lt, is_none, length, option_map}
+-- Entries about a sheet and a standard book, each with its answer. Assumes nothing.
+--     right t b e         the entry e, on the table t and the contents b of the book, has the answer that it must have
+--     next t e            the table after it, also where a call is refused
+--     next_book b e       the contents of the book after it
+--     all_right t b es    each of the entries es has it, one after another from t and b
+use Rattle.std.specs.Prelude.{◌≡◌, ℕ, ◌*◌, Bool, true, false, not, ◌&&◌, List, [], ◌∷◌, pos, Some, None, Decides, Option, ◌==◌, int_lt, is_none, length, nat_le, nat_lt, option_map}
 use Rattle.std.specs.Bool.{beq}
 use Rattle.std.specs.Option.{option_eq}
 use Rattle.std.specs.Ordering.{int_eq}
-use Rattle.sheet.specs.Calls.{verdict, after}
+use Rattle.book.specs.Keenest.{Keenest as BookKeenest, effort, soft}
+use Rattle.book.specs.Standard.{Contents, nothing, worth_of}
+use Rattle.book.specs.Worths.{Meaning}
 use Rattle.sheet.specs.Links.{linked, up}
 use Rattle.sheet.specs.Margins.{margin_of, Fits as SheetFits, Tightest as SheetTightest}
 use Rattle.common.specs.Ranks.{or_absent}
@@ -14,8 +17,10 @@ use Rattle.common.specs.Refusals.{outcome}
 use Rattle.common.specs.Sets.{any}
 use Rattle.sheet.specs.Tables.{Table, expected_of, task_of}
 use Rattle.common.specs.declared.ticks.Margin.{Margin}
-use Rattle.known.specs.declared.step.Step.{Step}
-use Rattle.known.specs.declared.step.Step.TheVariants.{New, Call, Linked, Expected, Above, Margin as MarginIs, Fits, Tightest}
+use Rattle.known.specs.declared.entry.Entry.{Entry}
+use Rattle.known.specs.declared.entry.Entry.TheVariants.{New, OnSheet, OnBook, Linked, Expected, Above, Margin as MarginIs, Fits, Tightest, Worth, Keenest}
+use Rattle.book.specs.Standard as book
+use Rattle.sheet.specs.Calls as sheet
 
 -- the one margin is smaller than the other; any is smaller than none
 abbrev pub smaller : Option Margin → Option Margin → Bool
@@ -33,28 +38,47 @@ all_met t = not (any (length t) (λ k. smaller (margin_of t k) (Some (record { 0
 abbrev pub none_hard : Table → Bool
 none_hard t = not (any (length t) (λ k. not (is_none (margin_of t k))))
 
--- these tests, which compute, find exactly what the sheet's definitions say
+-- task k is soft, no soft task has a greater fraction of worth at time 0 and effort, and each lower-numbered one has a smaller
+abbrev pub is_keenest : Meaning → Table → ℕ → Bool
+is_keenest m t k =
+    soft t k && (not (any (length t) (λ u. soft t u && nat_lt (m k 0 * effort t u) (m u 0 * effort t k))) && not (any k (λ u. soft t u && nat_le (m k 0 * effort t u) (m u 0 * effort t k))))
+
+abbrev pub none_soft : Table → Bool
+none_soft t = not (any (length t) (soft t))
+
+-- these tests, which compute, find exactly what the definitions say
 pub record Tests (t : Table) : Type 0 where
   pub fits : Decides (all_met t) (SheetFits t)
   pub tightest : (k : ℕ) → Decides (is_tightest t k) (SheetTightest t k)
-  pub none : Decides (none_hard t) ((k : ℕ) → margin_of t k ≡ None)
+  pub none_tight : Decides (none_hard t) ((k : ℕ) → margin_of t k ≡ None)
+  pub keenest : (m : Meaning) (k : ℕ) → Decides (is_keenest m t k) (BookKeenest m t k)
+  pub none_keen : Decides (none_soft t) ((k : ℕ) → soft t k ≡ false)
 
-abbrev pub right : Table → Step → Bool
-right t New = true
-right t (Call call answer) = verdict t call == outcome answer
-right t (Linked a b answer) = beq (linked t a b) answer
-right t (Expected k answer) = expected_of (task_of t k) == answer
-right t (Above k u answer) = beq (up t u k) answer
-right t (MarginIs k answer) = option_eq int_eq (option_map (λ m. m.0) (margin_of t k)) answer
-right t (Fits answer) = beq (all_met t) answer
-right t (Tightest (Some k)) = is_tightest t k
-right t (Tightest None) = none_hard t
+abbrev pub right : Table → Contents → Entry → Bool
+right t b New = true
+right t b (OnSheet call answer) = sheet.verdict t call == outcome answer
+right t b (OnBook call answer) = book.verdict b call == outcome answer
+right t b (Linked x y answer) = beq (linked t x y) answer
+right t b (Expected k answer) = expected_of (task_of t k) == answer
+right t b (Above k u answer) = beq (up t u k) answer
+right t b (MarginIs k answer) = option_eq int_eq (option_map (λ m. m.0) (margin_of t k)) answer
+right t b (Fits answer) = beq (all_met t) answer
+right t b (Tightest (Some k)) = is_tightest t k
+right t b (Tightest None) = none_hard t
+right t b (Worth k at answer) = worth_of b k at == answer
+right t b (Keenest (Some k)) = is_keenest (worth_of b) t k
+right t b (Keenest None) = none_soft t
 
-abbrev pub next : Table → Step → Table
+abbrev pub next : Table → Entry → Table
 next t New = []
-next t (Call call answer) = after t call
-next t question = t
+next t (OnSheet call answer) = sheet.after t call
+next t other = t
 
-abbrev pub all_right : Table → List Step → Bool
-all_right t [] = true
-all_right t (s ∷ ss) = right t s && all_right (next t s) ss
+abbrev pub next_book : Contents → Entry → Contents
+next_book b New = nothing
+next_book b (OnBook call answer) = book.after b call
+next_book b other = b
+
+abbrev pub all_right : Table → Contents → List Entry → Bool
+all_right t b [] = true
+all_right t b (e ∷ es) = right t b e && all_right (next t e) (next_book b e) es

@@ -1,33 +1,40 @@
-// The worked sheets, run through the code.
-use crate::step::Step;
+// The worked sheets and books, run through the code.
+use crate::entry::Entry;
 use crate::worked;
-use common::{Margin, Refusal};
+use book::{Book, StandardBook, keenest};
+use common::{Expected, Margin, Refusal};
 use sheet::Sheet;
 
-// Makes the step, and says whether it has its answer. Steps are data, not closures: the definitions read them.
-fn right(sheet: &mut Sheet, step: Step) -> bool {
-    match step {
-        Step::New => {
+// Makes the call or asks the question, and says whether it has its answer. Entries are data, not closures: the definitions read
+// them.
+fn right(sheet: &mut Sheet, book: &mut StandardBook, entry: Entry) -> bool {
+    match entry {
+        Entry::New => {
             *sheet = Sheet::new();
+            *book = StandardBook::new();
             true
         }
-        Step::Call(call, answer) => sheet.make(call).map(|_| ()) == answer,
-        Step::Linked(a, b, yes) => sheet.linked(a, b) == Ok(yes),
-        Step::Expected(t, ticks) => sheet.get(t).is_ok_and(|task| task.expected().0 == ticks),
-        Step::Above(t, u, yes) => sheet.up_set(t).is_ok_and(|set| set.contains(u) == yes),
-        Step::Margin(t, left) => sheet
+        Entry::OnSheet(call, answer) => sheet.make(call).map(|_| ()) == answer,
+        Entry::OnBook(call, answer) => book.make(call) == answer,
+        Entry::Linked(a, b, yes) => sheet.linked(a, b) == Ok(yes),
+        Entry::Expected(t, ticks) => sheet.get(t).is_ok_and(|task| task.expected().0 == ticks),
+        Entry::Above(t, u, yes) => sheet.up_set(t).is_ok_and(|set| set.contains(u) == yes),
+        Entry::Margin(t, left) => sheet
             .margin(t)
             .is_ok_and(|margin| margin.map(|Margin(ticks)| ticks) == left),
-        Step::Fits(yes) => sheet.fits() == yes,
-        Step::Tightest(least) => sheet.tightest() == least,
+        Entry::Fits(yes) => sheet.fits() == yes,
+        Entry::Tightest(least) => sheet.tightest() == least,
+        Entry::Worth(t, at, worth) => book.worth(t, Expected::from(at)) == worth,
+        Entry::Keenest(best) => keenest(sheet, book) == best,
     }
 }
 
 #[test]
-fn the_worked_sheets(rt: HostRuntime) {
+fn the_worked_sheets_and_books(rt: HostRuntime) {
     let mut sheet = Sheet::new();
-    for step in worked() {
-        assert!(rt; right(&mut sheet, step));
+    let mut book = StandardBook::new();
+    for entry in worked() {
+        assert!(rt; right(&mut sheet, &mut book, entry));
     }
 }
 

@@ -1,15 +1,16 @@
-// Makes a sheet as two groups do in a week, and prints each call's answer, each task with its margin, whether the sheet fits
-// and which task is the tightest.
+// Makes a sheet and its worth book as two groups do in a week, and prints each call's answer, each task with its margin, its
+// earliest end and what it is worth then, whether the sheet fits, and which tasks are the tightest and the keenest.
 #![tactic(auto)]
 
 ghost use Rattle.std.specs.Fmt.{padded};
 ghost use Rattle.std.specs.Option.{option_map_or};
 ghost use Rattle.std.specs.Prelude.{Some, codes};
 
-use common::{MOST, Margin};
-use sheet::{Call, Sheet, Task};
+use book::{Book, StandardBook, keenest};
+use common::{MOST, Margin, Refusal};
+use sheet::{Kind, Sheet, Task};
 use std::{fmt, io};
-use week::{BUS_GROUP, NAMES, RF_GROUP};
+use week::{BUS_GROUP, Group, NAMES, RF_GROUP};
 
 mod week;
 
@@ -31,24 +32,41 @@ impl<T: fmt::Display> fmt::Display for OrDash<T> {
     }
 }
 
-fn print_calls(rt: &impl Print, sheet: &mut Sheet, group: &str, calls: &[Call]) -> io::Result<()> {
-    println!(rt; "{group}")?;
-    for &call in calls {
-        match sheet.make(call) {
-            Ok(Some(t)) => println!(rt; "  {call}: {t}, {}", name(t))?,
-            Ok(None) => println!(rt; "  {call}: accepted")?,
-            Err(refusal) => println!(rt; "  {call}: refused with {}, {refusal}", refusal.number())?,
-        }
-    }
-    Ok(())
-}
-
 fn name(t: u8) -> &'static str {
     NAMES.get(usize::from(t)).copied().unwrap_or("unnamed")
 }
 
-fn print_task(rt: &impl Print, sheet: &Sheet, t: u8) -> io::Result<()> {
-    let (Ok(task), Ok(margin)) = (sheet.get(t), sheet.margin(t)) else {
+// A call and its answer; a new task answers its number.
+fn print_answer(
+    rt: &impl Print,
+    call: &impl fmt::Display,
+    answer: Result<Option<u8>, Refusal>,
+) -> io::Result<()> {
+    match answer {
+        Ok(Some(t)) => println!(rt; "  {call}: {t}, {}", name(t)),
+        Ok(None) => println!(rt; "  {call}: accepted"),
+        Err(refusal) => println!(rt; "  {call}: refused with {}, {refusal}", refusal.number()),
+    }
+}
+
+fn print_group(
+    rt: &impl Print,
+    sheet: &mut Sheet,
+    book: &mut StandardBook,
+    group: &Group,
+) -> io::Result<()> {
+    println!(rt; "{}", group.name)?;
+    for &call in group.tasks {
+        print_answer(rt, &call, sheet.make(call))?;
+    }
+    for &call in group.curves {
+        print_answer(rt, &call, book.make(call).map(|()| None))?;
+    }
+    Ok(())
+}
+
+fn print_task(rt: &impl Print, sheet: &Sheet, book: &StandardBook, t: u8) -> io::Result<()> {
+    let (Ok(task), Ok(margin), Ok(above)) = (sheet.get(t), sheet.margin(t), sheet.up_set(t)) else {
         return Ok(());
     };
     let name = name(t);
@@ -61,33 +79,45 @@ fn print_task(rt: &impl Print, sheet: &Sheet, t: u8) -> io::Result<()> {
     } = task;
     let deadline = OrDash(kind.deadline());
     let left = OrDash(margin.map(|Margin(left)| left));
+    let earliest = sheet.loads(above).expected;
+    let worth = OrDash(matches!(kind, Kind::Soft).then(|| book.worth(t, earliest)));
     print!(rt;
         "{t:>4}  {name:<15} {min:>5} {max:>5} {expected:>8}  {kind:<5}{deadline:>9}{left:>9}"
     )?;
+    print!(rt; "{:>9}{worth:>9}", earliest.0)?;
     for p in (0..MOST).filter(|&p| before.contains(p)) {
         print!(rt; " {p}")?;
     }
     println!(rt; "")
 }
 
-fn print_sheet(rt: &impl Print, sheet: &Sheet) -> io::Result<()> {
-    println!(rt; "Task  name              min   max expected  kind  deadline   margin after")?;
+fn print_choice(rt: &impl Print, what: &str, choice: Option<u8>) -> io::Result<()> {
+    let Some(t) = choice else {
+        return println!(rt; "{what}: none");
+    };
+    println!(rt; "{what}: {t}, {}", name(t))
+}
+
+fn print_sheet(rt: &impl Print, sheet: &Sheet, book: &StandardBook) -> io::Result<()> {
+    println!(rt;
+        "Task  name              min   max expected  kind  deadline   margin earliest    worth after"
+    )?;
     for t in 0..sheet.count() {
-        print_task(rt, sheet, t)?;
+        print_task(rt, sheet, book, t)?;
     }
     let fits = if sheet.fits() { "yes" } else { "no" };
     println!(rt; "Fits: {fits}")?;
-    let Some(t) = sheet.tightest() else {
-        return println!(rt; "Tightest: none, for no task is hard");
-    };
-    println!(rt; "Tightest: {t}, {}", name(t))
+    print_choice(rt, "Tightest", sheet.tightest())?;
+    print_choice(rt, "Keenest", keenest(sheet, book))
 }
 
 fn run(rt: &impl Print) -> io::Result<()> {
     let mut sheet = Sheet::new();
-    print_calls(rt, &mut sheet, "RF group", &RF_GROUP)?;
-    print_calls(rt, &mut sheet, "Bus group", &BUS_GROUP)?;
-    print_sheet(rt, &sheet)
+    let mut book = StandardBook::new();
+    for group in [&RF_GROUP, &BUS_GROUP] {
+        print_group(rt, &mut sheet, &mut book, group)?;
+    }
+    print_sheet(rt, &sheet, &book)
 }
 
 fn main(rt: HostRuntime) -> io::Result<()> {

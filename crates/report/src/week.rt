@@ -1,5 +1,6 @@
-// One sheet's week: what the RF group and then the bus group call.
-use sheet::Call::{self, Cut, Hard, Link, Soft, Task};
+// One sheet's week: what the RF group and then the bus group call on the sheet and on its book.
+use book::Call::{Ramp, Step, Weight};
+use sheet::Call::{Cut, Hard, Link, Soft, Task};
 
 pub const NAMES: [&str; 6] = [
     "blank output",
@@ -10,23 +11,43 @@ pub const NAMES: [&str; 6] = [
     "reply on bus",
 ];
 
-// The output is blanked before the attenuator and the level change, and unblanked after both.
-pub const RF_GROUP: [Call; 14] = [
-    Task(20, 40),
-    Task(150, 400),
-    Task(60, 90),
-    Task(15, 25),
-    Task(200, 800),
-    Link(0, 1),
-    Link(0, 2),
-    Link(1, 2),
-    Link(1, 3),
-    Link(2, 3),
-    Link(3, 4),
-    Hard(0, 60),
-    Hard(3, 600),
-    Soft(4),
-];
+pub struct Group {
+    pub name: &'static str,
+    // What it calls on the sheet, and then on the book.
+    pub tasks: &'static [sheet::Call],
+    pub curves: &'static [book::Call],
+}
 
-// The reply waits for the level, and the panel no longer for the output.
-pub const BUS_GROUP: [Call; 5] = [Task(80, 121), Link(2, 5), Cut(3, 4), Link(5, 0), Soft(5)];
+// The output is blanked before the attenuator and the level change, and unblanked after both. The panel should follow soon.
+pub const RF_GROUP: Group = Group {
+    name: "RF group",
+    tasks: &[
+        Task(20, 40),
+        Task(150, 400),
+        Task(60, 90),
+        Task(15, 25),
+        Task(200, 800),
+        Link(0, 1),
+        Link(0, 2),
+        Link(1, 2),
+        Link(1, 3),
+        Link(2, 3),
+        Link(3, 4),
+        Hard(0, 60),
+        Hard(3, 600),
+        Soft(4),
+    ],
+    curves: &[Ramp(4, 600, 400, 1400)],
+};
+
+// The reply waits for the level, and the panel no longer for the output. The reply is worth most before the bus polls again.
+pub const BUS_GROUP: Group = Group {
+    name: "Bus group",
+    tasks: &[Task(80, 121), Link(2, 5), Cut(3, 4), Link(5, 0), Soft(5)],
+    curves: &[
+        Step(5, 450, 300),
+        Step(5, 700, 200),
+        Step(5, 600, 100),
+        Weight(5, 2),
+    ],
+};

@@ -1,5 +1,6 @@
 -- What calls and kinds print. Assumes nothing.
-use Rattle.std.specs.Prelude.{List, ℕ, ◌++◌, codes, decimal}
+use Rattle.std.specs.Prelude.{List, ℕ, ◌++◌, codes}
+use Rattle.common.specs.Texts.{spaced}
 use Rattle.sheet.specs.Calls.{Call, task, time, link, cut, hard, soft, plain}
 use Rattle.sheet.specs.declared.table.Kind.{Kind}
 use Rattle.sheet.specs.declared.table.Kind.TheVariants.{Plain, Soft, Hard}
@@ -8,10 +9,6 @@ abbrev pub kind_text : Kind → List ℕ
 kind_text Plain = codes "plain"
 kind_text Soft = codes "soft"
 kind_text (Hard d) = codes "hard"
-
--- a space and the number
-abbrev pub spaced : ℕ → List ℕ
-spaced n = codes " " ++ decimal n
 
 abbrev pub call_text : Call → List ℕ
 call_text (task min max) = codes "task" ++ spaced min ++ spaced max

@@ -1,6 +1,7 @@
 use Rattle.known.proofs.Deciding.{standing}
+use Rattle.sheet.proofs.Rules.{sound-of}
 use Rattle.sheet.specs.Sheets.{table}
 use Rattle.known.proofs.tests_stand.Goals as goal
 
 pub returns : goal.returns
-returns c = standing (table c.args.sheet.now)
+returns c = standing (table c.args.sheet.now) (sound-of c.args.sheet.now)

@@ -1,4 +1,6 @@
 use Rattle.std.proofs.Common.{refl}
+use Rattle.book.specs.Ramps.{slope}
+use Rattle.book.specs.Steps.{stepped}
 use Rattle.sheet.specs.Links.{linked, via, reaches, up}
 use Rattle.sheet.specs.Margins.{needed, demand}
 use Rattle.common.specs.Sets.{has}
@@ -6,5 +8,5 @@ use Rattle.sheet.specs.Tables.{expected_of, maximum_of}
 use Rattle.known.proofs.worked.Goals as goal
 
 pub returns : goal.returns
-unfolding has linked via reaches up expected_of maximum_of needed demand
+unfolding has linked via reaches up expected_of maximum_of needed demand slope stepped
 returns c = refl

@@ -1,11 +1,12 @@
-// A call or a question on a sheet, with the answer that it must have.
+// A call or a question on a sheet and a standard book, with the answer that it must have.
 use common::Refusal;
 
 #[derive(Clone, Copy, Debug)]
-pub enum Step {
-    // A new sheet, on which the next steps are made.
+pub enum Entry {
+    // A new sheet and a new book, which the next entries are about.
     New,
-    Call(sheet::Call, Result<(), Refusal>),
+    OnSheet(sheet::Call, Result<(), Refusal>),
+    OnBook(book::Call, Result<(), Refusal>),
     // Whether the link from the first to the second is there.
     Linked(u8, u8, bool),
     Expected(u8, u32),
@@ -16,4 +17,8 @@ pub enum Step {
     Fits(bool),
     // None where no task is hard.
     Tightest(Option<u8>),
+    // What the task is worth at the time.
+    Worth(u8, u32, u32),
+    // None where no task is soft.
+    Keenest(Option<u8>),
 }
