@@ -34,7 +34,7 @@ contents x =
 abbrev pub nothing : Contents
 nothing = record { ramps = no_ramps; steps = no_steps; weights = all_one }
 
--- the ramps and the steps together, times the weights
+-- the ramps and the steps together, times the weights, each at most the top
 abbrev pub worth_of : Contents → Meaning
 worth_of c = weighed (weight_of c.weights) (added (ramp_meaning c.ramps) (step_meaning c.steps))
 

@@ -2,8 +2,8 @@
 --     top            no worth is above it
 --     latest         the last time that a curve may name
 --     Sound m        what every book shows of its meaning m
---     added m n      two books together
---     weighed w m    a book times each task's weight
+--     added m n      two books together, at most the top
+--     weighed w m    a book times each task's weight, at most the top
 --     Layered m      m is the meaning of one book, or of books layered in any way
 use Rattle.std.specs.Prelude.{◌≡◌, ℕ, ◌+◌, ◌*◌, ◌≤◌, ◌<◌, min}
 

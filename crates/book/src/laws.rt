@@ -1,7 +1,7 @@
 // What holds of every book.
-ghost use Rattle.std.specs.Prelude.{◌≡◌, ◌-◌, ◌^◌, ◌↔◌, IsTrue};
+ghost use Rattle.std.specs.Prelude.{◌≡◌, ◌-◌, ◌*◌, ◌/◌, ◌^◌, ◌↔◌, IsTrue};
 ghost use Rattle.book.specs.Standard.{Alike, contents};
-ghost use Rattle.book.specs.Worths.{Layered, Meaning, Sound};
+ghost use Rattle.book.specs.Worths.{Layered, Meaning, Sound, latest, top};
 
 use crate::book::{Book, LATEST, TOP};
 use crate::ramp::RampBook;
@@ -26,11 +26,11 @@ pub fn last_worth<B: Book>(book: &B, task: u8) -> u32
     book.worth(task, Expected::from(u32::MAX))
 }
 
-// What the steepest product comes to: a peak of 1,000,000 times the 1,048,574 ticks left at time 1, which 64 bits hold, divided
-// by the 1,048,575 of the whole fall; and 0 at the last time of all.
+// The worth where a ramp's product is the greatest, the highest peak times the ticks left at time 1 of the longest fall, which needs
+// 64 bits; and that at the last 32-bit time, which is 0.
 #[tactic(auto, unfolding(crate::specs::Ramps::slope))]
 pub fn widest_product() -> (u32, u32)
-    ensures { (result.0 ≡ 999999) × (result.1 ≡ 0) }
+    ensures { (result.0 ≡ top * (latest - 1) / latest) × (result.1 ≡ 0) }
 {
     let mut book = RampBook::new();
     let _ = book.ramp(0, TOP, 0, LATEST);

@@ -10,7 +10,7 @@ use crate::book::{Book, LATEST, TOP};
 use crate::place::place;
 use common::{Exact, Expected, Refusal};
 
-// Worth the peak up to the knee, then less and less, and nothing from the foot on.
+// Worth the peak up to the knee, then in proportion to what is left to the foot, and nothing from the foot on.
 #[derive(Clone, Copy, Debug, PartialEq, Eq)]
 pub struct Ramp {
     peak: u32,

@@ -19,6 +19,8 @@ fn a_new_kind_is_layered_like_any_other(rt: HostRuntime) {
     assert!(rt; layers.worth(0, Expected::from(3)) == 0);
     assert!(rt; layers.worth(16, Expected::from(0)) == 0);
     assert!(rt; last_worth(&layers, 0) == 0);
+    let high = FlatBook::new(600000, 2);
+    assert!(rt; beside(high, &high, 0, Expected::from(2)) == 1000000);
     assert!(rt; last_worth(&FlatBook::new(2000000, u32::MAX), 15) == 1000000);
 }
 
