@@ -1,3 +1,4 @@
 pub mod Steps
 pub mod Efforts
 pub mod Equality
+pub mod Others

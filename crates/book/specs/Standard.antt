@@ -7,8 +7,10 @@
 --     changed c call       the contents after the call, where it is accepted
 --     after c call         the contents after the call: as they were, where the call is refused
 --     Called c c' call n   the call answers n and leaves c'
+--     about call           the task whose curve or weight the call sets
+--     Others_stay          a call leaves what every other task is worth
 --     Alike c d            each task has the same ramp, the same steps and the same weight
-use Rattle.std.specs.Prelude.{List, ◌≡◌, ℕ, ◌<◌, set, Option}
+use Rattle.std.specs.Prelude.{List, ◌≡◌, ◌≢◌, ℕ, ◌<◌, set, Option}
 use Rattle.book.specs.Ramps.{no_ramps, ramp_meaning, ramp_of, ramp_rows, ramped}
 use Rattle.book.specs.Lists.{ramps_in, steps_in, weights_in}
 use Rattle.book.specs.Steps.{drop_rows, no_steps, step_added, step_meaning, step_rows, steps_dropped, steps_of}
@@ -58,6 +60,17 @@ after c call = kept_unless (verdict c call) (changed c call) c
 
 abbrev pub Called : (c c' : Contents) (call : Call) (n : ℕ) → Type 0
 Called c c' call n = Answered (rows c call) (changed c call) c c' n
+
+-- the task whose curve or weight the call sets
+abbrev pub about : Call → ℕ
+about (ramp k peak knee foot) = k
+about (step k until worth) = k
+about (drop_steps k) = k
+about (weight k w) = k
+
+-- after any call, every other task is worth what it was
+abbrev pub Others_stay : Type 0
+Others_stay = (c : Contents) (call : Call) (task at : ℕ) → task ≢ about call → worth_of (after c call) task at ≡ worth_of c task at
 
 pub record Alike (c d : Contents) : Type 0 where
   pub ramps : (k : ℕ) → k < 16 → ramp_of c.ramps k ≡ ramp_of d.ramps k

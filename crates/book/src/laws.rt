@@ -1,6 +1,6 @@
 // What holds of every book.
 ghost use Rattle.std.specs.Prelude.{◌≡◌, ◌-◌, ◌*◌, ◌/◌, ◌^◌, ◌↔◌, IsTrue};
-ghost use Rattle.book.specs.Standard.{Alike, contents};
+ghost use Rattle.book.specs.Standard.{Alike, Others_stay, contents};
 ghost use Rattle.book.specs.Worths.{Layered, Meaning, Sound, latest, top};
 
 use crate::book::{Book, LATEST, TOP};
@@ -17,6 +17,12 @@ pub fn kind_stands<B: Book>(book: &B)
 #[tactic(auto, using(crate::specs::WorthLaws::layered_sound))]
 pub fn layers_stand()
     ensures { (m : Meaning) → Layered m → Sound m }
+{}
+
+// A call on a standard book leaves what every other task is worth.
+#[tactic(auto, using(crate::proofs::Others::others_stay))]
+pub fn others_stay()
+    ensures { Others_stay }
 {}
 
 // The worth at the last 32-bit time is answered as at any other.

@@ -15,7 +15,7 @@ mod weights;
 pub use book::{Book, LATEST, TOP};
 pub use call::Call;
 pub use keenness::keenest;
-pub use laws::{equal_books, kind_stands, last_worth, layers_stand, widest_product};
+pub use laws::{equal_books, kind_stands, last_worth, layers_stand, others_stay, widest_product};
 pub use layers::{Sum, Weighted};
 pub use ramp::RampBook;
 pub use standard::StandardBook;
