@@ -4,10 +4,10 @@
 --     first_fit rs             the number of the first of the rows rs that fits, 0 where none does
 --     Smallest rs n            n is the smallest number of a row that fits, and 0 where none does
 --     kept_unless n new old    what a call leaves that answers n
---     Answered rs new old left n    what every call promises that may be refused
+--     Answered rs new old left n    what every call on a sheet or a book promises that may be refused
 use Rattle.std.specs.Prelude.{Bool, true, List, [], ◌∷◌, ◌≡◌, ℕ, ◌≤◌, ◌<◌, Result, Ok, Err, if◌then◌else◌, ◌==◌, IsTrue, All, Contains}
 use Rattle.common.specs.declared.refusal.Refusal.{Refusal}
-use Rattle.common.specs.declared.refusal.Refusal.TheVariants.{UnknownTask, SheetFull, Durations, Circle, NoLink, DeadlineRange, OtherKind, BookRule, StepsFull}
+use Rattle.common.specs.declared.refusal.Refusal.TheVariants.{UnknownTask, SheetFull, Durations, Circle, NoLink, DeadlineRange, OtherKind, BookRule, StepsFull, NoOrder, Memory}
 
 abbrev pub number : Refusal → ℕ
 number UnknownTask = 1
@@ -19,6 +19,8 @@ number DeadlineRange = 6
 number OtherKind = 7
 number BookRule = 8
 number StepsFull = 9
+number NoOrder = 10
+number Memory = 14
 
 abbrev pub outcome : {A : Type 0} → Result A Refusal → ℕ
 outcome (Ok v) = 0

@@ -1,7 +1,7 @@
 -- What refusals print, and the numbers of calls. Assumes nothing.
 use Rattle.std.specs.Prelude.{List, ℕ, ◌++◌, codes, decimal}
 use Rattle.common.specs.declared.refusal.Refusal.{Refusal}
-use Rattle.common.specs.declared.refusal.Refusal.TheVariants.{UnknownTask, SheetFull, Durations, Circle, NoLink, DeadlineRange, OtherKind, BookRule, StepsFull}
+use Rattle.common.specs.declared.refusal.Refusal.TheVariants.{UnknownTask, SheetFull, Durations, Circle, NoLink, DeadlineRange, OtherKind, BookRule, StepsFull, NoOrder, Memory}
 
 abbrev pub refusal_text : Refusal → List ℕ
 refusal_text UnknownTask = codes "no task has the number"
@@ -13,6 +13,8 @@ refusal_text DeadlineRange = codes "a deadline must keep 1 <= deadline <= 104857
 refusal_text OtherKind = codes "a soft task can't be marked hard, nor a hard one soft"
 refusal_text BookRule = codes "the ramp, the step or the weight breaks its rule"
 refusal_text StepsFull = codes "six steps are there"
+refusal_text NoOrder = codes "no order is lawful"
+refusal_text Memory = codes "the memory is too short"
 
 -- a space and the number
 abbrev pub spaced : ℕ → List ℕ

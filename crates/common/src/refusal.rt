@@ -1,4 +1,4 @@
-// Why a call is refused. A refused call leaves everything as it was.
+// Why a call is refused. A refused call leaves everything as it was, but for the cells of a plan without a lawful order.
 ghost use Rattle.std.specs.Prelude.{◌≡◌};
 ghost use Rattle.std.specs.Cmp.Rules.{comparing};
 ghost use Rattle.std.proofs.Common.{rules};
@@ -8,7 +8,7 @@ use crate::exact::Exact;
 use std::error::Error;
 use std::fmt;
 
-// Where several fit a call, the smallest number is answered.
+// Where several fit a call on a sheet or a book, the smallest number is answered.
 #[derive(Clone, Copy, Debug, PartialEq, Eq)]
 pub enum Refusal {
     // No task has the number; of a call that changes a book, the number is above 15.
@@ -29,6 +29,10 @@ pub enum Refusal {
     BookRule = 8,
     // Six steps are there.
     StepsFull = 9,
+    // No order is lawful.
+    NoOrder = 10,
+    // The memory lent to a plan is too short. It comes before all others.
+    Memory = 14,
 }
 
 impl Refusal {
@@ -57,6 +61,8 @@ impl fmt::Display for Refusal {
             Refusal::OtherKind => "a soft task can't be marked hard, nor a hard one soft",
             Refusal::BookRule => "the ramp, the step or the weight breaks its rule",
             Refusal::StepsFull => "six steps are there",
+            Refusal::NoOrder => "no order is lawful",
+            Refusal::Memory => "the memory is too short",
         })
     }
 }

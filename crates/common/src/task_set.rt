@@ -1,5 +1,5 @@
 // A set of task numbers as a bit mask: bit t is set where t is a member.
-ghost use Rattle.std.specs.Prelude.{◌≡◌, false, not, ◌&&◌, ◌||◌, ℕ, nat_lt, MatchOption, count_ones, if◌then◌else◌, ◌==◌};
+ghost use Rattle.std.specs.Prelude.{◌≡◌, ◌↔◌, IsTrue, true, false, not, ◌&&◌, ◌||◌, ℕ, nat_lt, MatchOption, count_ones, if◌then◌else◌, ◌==◌};
 ghost use Rattle.std.specs.Cmp.Rules.{comparing};
 ghost use Rattle.std.proofs.Common.{rules};
 ghost use Rattle.common.specs.Sets.{has, adding, removing, Lowest};
@@ -43,6 +43,20 @@ impl TaskSet {
         TaskSet(self.0 & !(1 << t))
     }
 
+    // Whether each member is in the other set too.
+    pub fn within(self, other: TaskSet) -> bool
+        ensures { IsTrue result ↔ ((u : ℕ) → has self.0 u ≡ true → has other.0 u ≡ true) }
+    {
+        self.0 & other.0 == self.0
+    }
+
+    // The set's number, which has bit t set for each member t.
+    pub fn index(self) -> usize
+        ensures { result ≡ self.0 }
+    {
+        usize::from(self.0)
+    }
+
     pub fn len(self) -> u32
         ensures { result ≡ count_ones self.0 }
     {
@@ -58,6 +72,15 @@ impl TaskSet {
         }
         // At most 15: the cast is proved to keep it.
         Some(self.0.trailing_zeros() as u8)
+    }
+}
+
+// The set that has the number.
+impl From<u16> for TaskSet {
+    ghost from_gives = { λ number set. set.0 ≡ number };
+
+    fn from(number: u16) -> TaskSet {
+        TaskSet(number)
     }
 }
 

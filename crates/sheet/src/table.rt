@@ -6,7 +6,7 @@ ghost use Rattle.sheet.specs.Calls.{new_task};
 ghost use Rattle.sheet.specs.Margins.{deadline_of, due_by};
 ghost use Rattle.sheet.specs.Tables.{blank, expected_of, maximum_of, task_of};
 
-use common::{Exact, Expected, Maximum, TaskSet};
+use common::{Exact, Expected, MOST, Maximum, TaskSet};
 use std::fmt;
 
 // How a task's end counts.
@@ -128,16 +128,17 @@ impl Table {
         }
     }
 
+    // The bound is in the type; said once more, the compiler knows it too, and loops over the tasks need no test of their numbers.
     pub(crate) fn len(&self) -> u8
         ensures { result ≡ length (listed self.now) }
     {
-        self.len
+        self.len.min(MOST)
     }
 
     pub(crate) fn tasks(&self) -> &[Task]
         ensures { result.now ≡ listed self.now }
     {
-        &self.tasks[0..usize::from(self.len)]
+        &self.tasks[0..usize::from(self.len())]
     }
 
     pub(crate) fn at(&self, t: u8) -> Task

@@ -18,6 +18,13 @@ impl Sheet {
         self.table.len()
     }
 
+    // All tasks, by number.
+    pub fn tasks(&self) -> &[Task]
+        ensures { result.now ≡ table self.now }
+    {
+        self.table.tasks()
+    }
+
     // Task t: its durations, its kind and its direct predecessors.
     pub fn get(&self, t: u8) -> Result<Task, Refusal>
         ensures { Asked (table self.now) t (λ x. x ≡ task_of (table self.now) t) result }
