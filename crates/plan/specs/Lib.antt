@@ -1,0 +1,6 @@
+pub mod Orders
+pub mod Totals
+pub mod Cells
+pub mod Planned
+pub mod Next
+pub mod Feasible
