@@ -17,7 +17,7 @@ use Rattle.sheet.specs.Margins.{margin_of, Tightest}
 use Rattle.sheet.specs.Tables.{Table}
 
 -- what holds of each number below n, where it holds of each number that fails p
-none-below : (n : ℕ) (p : ℕ → Bool) (P : ℕ → Type 0) → ((k : ℕ) → Decides (not (p k)) (P k)) → Decides (not (any n p)) ((k : ℕ) → k < n → P k)
+pub none-below : (n : ℕ) (p : ℕ → Bool) (P : ℕ → Type 0) → ((k : ℕ) → Decides (not (p k)) (P k)) → Decides (not (any n p)) ((k : ℕ) → k < n → P k)
 none-below n p P each = Decides-below_and (λ k. not (p k)) P (λ k. not (any k p)) each refl (λ k. grind arith) n
 
 -- ---- a margin that may be absent: it is not smaller than m, m is smaller than it, it is absent

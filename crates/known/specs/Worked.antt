@@ -18,7 +18,8 @@ use Rattle.common.specs.Sets.{any}
 use Rattle.sheet.specs.Tables.{Table, expected_of, task_of}
 use Rattle.common.specs.declared.ticks.Margin.{Margin}
 use Rattle.known.specs.declared.entry.Entry.{Entry}
-use Rattle.known.specs.declared.entry.Entry.TheVariants.{New, OnSheet, OnBook, Linked, Expected, Above, Margin as MarginIs, Fits, Tightest, Worth, Keenest}
+use Rattle.known.specs.declared.entry.Entry.TheVariants.{New, OnSheet, OnBook, Linked, Expected, Above, Margin as MarginIs, Fits, Tightest, Worth, Keenest, Best, NoOrder, Cell}
+use Rattle.known.specs.Plans.{is_best, is_cell, none_lawful}
 use Rattle.book.specs.Standard as book
 use Rattle.sheet.specs.Calls as sheet
 
@@ -68,6 +69,9 @@ right t b (Tightest None) = none_hard t
 right t b (Worth k at answer) = worth_of b k at == answer
 right t b (Keenest (Some k)) = is_keenest (worth_of b) t k
 right t b (Keenest None) = none_soft t
+right t b (Best o v) = is_best (worth_of b) t o.now v
+right t b NoOrder = none_lawful t
+right t b (Cell s v) = is_cell (worth_of b) t s v
 
 abbrev pub next : Table → Entry → Table
 next t New = []

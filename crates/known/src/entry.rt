@@ -21,4 +21,10 @@ pub enum Entry {
     Worth(u8, u32, u32),
     // None where no task is soft.
     Keenest(Option<u8>),
+    // The best order and its total.
+    Best(&'static [u8], u32),
+    // No order is lawful.
+    NoOrder,
+    // What the cell of the set with this number holds.
+    Cell(u16, u32),
 }

@@ -1,8 +1,10 @@
-// The worked sheets and books as one list: the contract computes the definitions over it, and the tests run it through the code.
+// The worked sheets, books and plans as one list: the contract computes the definitions over it, and the tests run it through
+// the code.
 #![tactic(auto)]
 
 ghost use Rattle.std.specs.Prelude.{◌≡◌, [], true};
 ghost use Rattle.book.specs.Standard.{nothing};
+ghost use Rattle.known.specs.Plans.{PlanTests};
 ghost use Rattle.known.specs.Worked.{all_right, Tests};
 ghost use Rattle.sheet.specs.Sheets.{table};
 
@@ -15,13 +17,14 @@ mod list;
 #[cfg(test)]
 mod tests;
 
-// What the list asks of fits, tightest and keenest is what these words mean, of every sheet and every book.
+// What the list asks of fits, tightest, keenest, orders and cells is what these words mean, of every sheet and every book.
 pub fn tests_stand(sheet: &Sheet)
-    ensures { Tests (table sheet.now) }
+    ensures sheets { Tests (table sheet.now) }
+    ensures plans { PlanTests (table sheet.now) }
 {}
 
 // Each entry has its answer by the definitions, one after another.
-pub fn worked() -> [Entry; 174]
+pub fn worked() -> [Entry; 207]
     ensures { all_right [] nothing result ≡ true }
 {
     WORKED

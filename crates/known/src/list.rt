@@ -1,7 +1,8 @@
-// The worked sheets and books, one after another. It is a constant, which the prover reads far faster than so long an array in a
-// body.
+// The worked sheets, books and plans, one after another. It is a constant, which the prover reads far faster than so long an
+// array in a body.
 use crate::entry::Entry::{
-    self, Above, Expected, Fits, Keenest, Linked, Margin, New, OnBook, OnSheet, Tightest, Worth,
+    self, Above, Best, Cell, Expected, Fits, Keenest, Linked, Margin, New, NoOrder, OnBook,
+    OnSheet, Tightest, Worth,
 };
 use book::Call::{DropSteps, Ramp, Step, Weight};
 use common::Refusal::{
@@ -9,7 +10,11 @@ use common::Refusal::{
 };
 use sheet::Call::{Cut, Hard, Link, Plain, Soft, Task, Time};
 
-pub const WORKED: [Entry; 174] = [
+pub const WORKED: [Entry; 207] = [
+    // A sheet without tasks has one order, the empty one.
+    New,
+    Best(&[], 0),
+    Cell(0, 1),
     // The bounds of durations and deadlines; the midpoint is rounded down.
     New,
     OnSheet(Task(0, 5), Err(Durations)),
@@ -47,6 +52,19 @@ pub const WORKED: [Entry; 174] = [
     Fits(false),
     Tightest(Some(1)),
     Keenest(None),
+    // No order, since task 1 is late even if it is first. How the tasks of a set ended doesn't matter to its cell.
+    OnSheet(Soft(2), Ok(())),
+    OnBook(Ramp(2, 12, 7, 10), Ok(())),
+    NoOrder,
+    Cell(0, 0),
+    Cell(2, 13),
+    Cell(7, 1),
+    // By 6, task 2 can't be first, and task 0 may be, but then task 2 is worth 8.
+    OnSheet(Hard(1, 6), Ok(())),
+    Best(&[1, 2, 0], 12),
+    Cell(0, 13),
+    Cell(1, 9),
+    Cell(4, 0),
     // A circle is refused until it is cut; a link that is there is accepted.
     New,
     OnSheet(Task(1, 1), Ok(())),
@@ -63,6 +81,7 @@ pub const WORKED: [Entry; 174] = [
     OnSheet(Cut(1, 2), Ok(())),
     OnSheet(Link(2, 0), Ok(())),
     Above(1, 2, true),
+    Best(&[2, 0, 1], 0),
     // Task 0 stays above task 2 while one of two paths is left.
     New,
     OnSheet(Task(3, 3), Ok(())),
@@ -114,6 +133,14 @@ pub const WORKED: [Entry; 174] = [
     Keenest(Some(2)),
     OnBook(Ramp(1, 18, 9, 27), Ok(())),
     Keenest(Some(1)),
+    // In the order of their numbers they would earn 29, but task 3 could end at 35. A set may lack a task that stands before one
+    // of its own.
+    Best(&[0, 1, 3, 2, 4], 25),
+    Cell(1, 26),
+    Cell(2, 9),
+    Cell(7, 0),
+    Cell(14, 1),
+    Cell(31, 1),
     OnBook(Ramp(1, 12, 9, 27), Ok(())),
     Keenest(Some(1)),
     // A smaller worth over fewer ticks: 7 over 2 against 30 over 10.
@@ -127,6 +154,19 @@ pub const WORKED: [Entry; 174] = [
     Keenest(Some(1)),
     OnBook(Weight(0, 2), Ok(())),
     Keenest(Some(0)),
+    // Of equal totals the one with the smaller number first, also where there is nothing to earn.
+    New,
+    OnSheet(Task(3, 3), Ok(())),
+    OnSheet(Task(2, 2), Ok(())),
+    OnSheet(Task(2, 2), Ok(())),
+    Best(&[0, 1, 2], 0),
+    OnSheet(Soft(1), Ok(())),
+    OnSheet(Soft(2), Ok(())),
+    OnBook(Ramp(1, 12, 2, 8), Ok(())),
+    OnBook(Ramp(2, 12, 2, 8), Ok(())),
+    Best(&[1, 2, 0], 20),
+    Cell(2, 9),
+    Cell(4, 9),
     // A ramp is worth its peak up to the knee, then falls, rounded down, to 0 at the foot.
     New,
     OnBook(Ramp(0, 12, 7, 10), Ok(())),

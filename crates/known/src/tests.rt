@@ -1,9 +1,30 @@
-// The worked sheets and books, run through the code.
+// The worked sheets, books and plans, run through the code.
 use crate::entry::Entry;
 use crate::worked;
 use book::{Book, StandardBook, keenest};
 use common::{Expected, Margin, Refusal};
 use sheet::Sheet;
+
+// What planning answers and leaves, where the sheet has at most six tasks.
+#[derive(Clone, Copy)]
+struct Plan {
+    answer: Result<u32, Refusal>,
+    cells: [u32; 64],
+    order: [u8; 6],
+}
+
+impl Plan {
+    fn of(sheet: &Sheet, book: &StandardBook) -> Plan {
+        let mut cells = [0; 64];
+        let mut order = [0; 6];
+        let answer = plan::plan(sheet, book, &mut cells, &mut order);
+        Plan {
+            answer,
+            cells,
+            order,
+        }
+    }
+}
 
 // Makes the call or asks the question, and says whether it has its answer. Entries are data, not closures: the definitions read
 // them.
@@ -26,6 +47,13 @@ fn right(sheet: &mut Sheet, book: &mut StandardBook, entry: Entry) -> bool {
         Entry::Tightest(least) => sheet.tightest() == least,
         Entry::Worth(t, at, worth) => book.worth(t, Expected::from(at)) == worth,
         Entry::Keenest(best) => keenest(sheet, book) == best,
+        Entry::Best(order, total) => {
+            let plan = Plan::of(sheet, book);
+            plan.answer == Ok(total) && plan.order.starts_with(order)
+        }
+        Entry::NoOrder => Plan::of(sheet, book).answer == Err(Refusal::NoOrder),
+        Entry::Cell(set, value) => Plan::of(sheet, book).cells.get(usize::from(set))
+            == Some(&value),
     }
 }
 

@@ -1,5 +1,5 @@
 // Makes a sheet and its worth book as two groups do in a week, and prints each call's answer, each task with its margin, its
-// earliest end and what it is worth then, whether the sheet fits, and which tasks are the tightest and the keenest.
+// earliest end and what it is worth then, whether the sheet fits, which tasks are the tightest and the keenest, and the plan.
 #![tactic(auto)]
 
 ghost use Rattle.std.specs.Fmt.{padded};
@@ -7,10 +7,10 @@ ghost use Rattle.std.specs.Option.{option_map_or};
 ghost use Rattle.std.specs.Prelude.{Some, codes};
 
 use book::{Book, StandardBook, keenest};
-use common::{MOST, Margin, Refusal};
+use common::{Expected, MOST, Margin, Maximum, Refusal};
 use sheet::{Kind, Sheet, Task};
 use std::{fmt, io};
-use week::{BUS_GROUP, Group, NAMES, RF_GROUP};
+use week::{BUS_GROUP, Group, NAMES, RF_GROUP, SOONER};
 
 mod week;
 
@@ -34,6 +34,11 @@ impl<T: fmt::Display> fmt::Display for OrDash<T> {
 
 fn name(t: u8) -> &'static str {
     NAMES.get(usize::from(t)).copied().unwrap_or("unnamed")
+}
+
+// What task t is worth if it ends at the time; only a soft task is worth anything.
+fn worth(book: &StandardBook, t: u8, kind: Kind, at: Expected) -> OrDash<u32> {
+    OrDash(matches!(kind, Kind::Soft).then(|| book.worth(t, at)))
 }
 
 // A call and its answer; a new task answers its number.
@@ -80,7 +85,7 @@ fn print_task(rt: &impl Print, sheet: &Sheet, book: &StandardBook, t: u8) -> io:
     let deadline = OrDash(kind.deadline());
     let left = OrDash(margin.map(|Margin(left)| left));
     let earliest = sheet.loads(above).expected;
-    let worth = OrDash(matches!(kind, Kind::Soft).then(|| book.worth(t, earliest)));
+    let worth = worth(book, t, kind, earliest);
     print!(rt;
         "{t:>4}  {name:<15} {min:>5} {max:>5} {expected:>8}  {kind:<5}{deadline:>9}{left:>9}"
     )?;
@@ -111,13 +116,47 @@ fn print_sheet(rt: &impl Print, sheet: &Sheet, book: &StandardBook) -> io::Resul
     print_choice(rt, "Keenest", keenest(sheet, book))
 }
 
+// The best order, each task with its expected and its maximum completion, its deadline, and what it is worth then; or why there
+// is none.
+fn print_plan(rt: &impl Print, sheet: &Sheet, book: &StandardBook) -> io::Result<()> {
+    let mut cells = [0; 1 << NAMES.len()];
+    let mut order = [0; NAMES.len()];
+    let total = match plan::plan(sheet, book, &mut cells, &mut order) {
+        Ok(total) => total,
+        Err(refusal) => {
+            return println!(rt; "No plan: refused with {}, {refusal}", refusal.number());
+        }
+    };
+    println!(rt; "Plan  name            expected  maximum deadline    worth")?;
+    let mut expected = Expected::from(0);
+    let mut maximum = Maximum::from(0);
+    for &t in order.iter().take(usize::from(sheet.count())) {
+        let Ok(task) = sheet.get(t) else {
+            return Ok(());
+        };
+        expected = expected.plus(task.expected());
+        maximum = maximum.plus(task.maximum());
+        let name = name(t);
+        let deadline = OrDash(task.kind.deadline());
+        let worth = worth(book, t, task.kind, expected);
+        println!(rt;
+            "{t:>4}  {name:<15} {:>8} {:>8}{deadline:>9}{worth:>9}",
+            expected.0, maximum.0
+        )?;
+    }
+    println!(rt; "Total: {total}")
+}
+
 fn run(rt: &impl Print) -> io::Result<()> {
     let mut sheet = Sheet::new();
     let mut book = StandardBook::new();
     for group in [&RF_GROUP, &BUS_GROUP] {
         print_group(rt, &mut sheet, &mut book, group)?;
     }
-    print_sheet(rt, &sheet, &book)
+    print_sheet(rt, &sheet, &book)?;
+    print_plan(rt, &sheet, &book)?;
+    print_group(rt, &mut sheet, &mut book, &SOONER)?;
+    print_plan(rt, &sheet, &book)
 }
 
 fn main(rt: HostRuntime) -> io::Result<()> {

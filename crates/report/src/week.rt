@@ -1,4 +1,4 @@
-// One sheet's week: what the RF group and then the bus group call on the sheet and on its book.
+// One sheet's week: what the RF group, the bus group, and the RF group again call on the sheet and on its book.
 use book::Call::{Ramp, Step, Weight};
 use sheet::Call::{Cut, Hard, Link, Soft, Task};
 
@@ -50,4 +50,11 @@ pub const BUS_GROUP: Group = Group {
         Step(5, 600, 100),
         Weight(5, 2),
     ],
+};
+
+// The output is to be back sooner, by a little more than is left of its deadline.
+pub const SOONER: Group = Group {
+    name: "RF group, a day later",
+    tasks: &[Hard(3, 550)],
+    curves: &[],
 };

@@ -1,7 +1,12 @@
 use Rattle.known.proofs.Deciding.{standing}
+use Rattle.known.proofs.Plans.{deciding}
 use Rattle.sheet.proofs.Rules.{sound-of}
 use Rattle.sheet.specs.Sheets.{table}
 use Rattle.known.proofs.tests_stand.Goals as goal
 
 pub returns : goal.returns
-returns c = standing (table c.args.sheet.now) (sound-of c.args.sheet.now)
+returns c =
+    record {
+      sheets = standing (table c.args.sheet.now) (sound-of c.args.sheet.now);
+      plans = deciding (table c.args.sheet.now) (sound-of c.args.sheet.now);
+    }
