@@ -2,7 +2,8 @@
 --     Suffices t cells order       there is a cell for each set of tasks, and a byte for each task
 --     KeptFrom n xs ys             from n on, ys has what xs has
 --     Ordered m t order order' v   order' begins with the best order, which totals v; the bytes behind it are as before
---     Planned ..                   the whole promise of plan: the cells are `cells` before and `cells'` after, the order `order` and `order'`
+--     Planned ..                   the whole promise of plan: the cells are `cells` before and `cells'` after, the order `order` and
+--                                  `order'`
 use Rattle.std.specs.Prelude.{◌≡◌, ◌⊎◌, ◌↔◌, List, ℕ, ◌^◌, ◌≤◌, IfOk, Result, length, slice_index, take}
 use Rattle.book.specs.Worths.{Meaning}
 use Rattle.common.specs.Refusals.{outcome}

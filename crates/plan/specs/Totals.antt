@@ -3,7 +3,8 @@
 --     earned m t r from o   the sum of that over the tasks of o, where the first of them starts at `from`, each starts as the one
 --                           before it ends, and each takes as long as r says
 --     total m t o           that sum where every task takes as long as is expected
---     Before o p            the order o comes before p: place by place, the smaller task number first; a front part before the whole
+--     Before o p            the order o comes before p: place by place, the smaller task number first, and a front part before the
+--                           whole
 --     Best m t o            o is the first of the lawful orders with the greatest total
 --     Runs m t o            what any run of o earns, and when its tasks end
 use Rattle.std.specs.Prelude.{◌≡◌, ◌≢◌, ◌⊎◌, [], ◌∷◌, ℕ, ◌+◌, ◌<◌, ◌≤◌, if◌then◌else◌, length}

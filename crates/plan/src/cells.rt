@@ -1,5 +1,5 @@
 // The cells, one for each set of tasks.
-ghost use Rattle.std.specs.Prelude.{◌≡◌, ◌+◌, ◌^◌, ◌≤◌, ◌<◌, length};
+ghost use Rattle.std.specs.Prelude.{◌+◌, ◌^◌, ◌≤◌, ◌<◌, length};
 ghost use Rattle.plan.specs.Cells.{Cell, Filled};
 ghost use Rattle.plan.specs.Next.{FilledFrom};
 ghost use Rattle.plan.specs.Planned.{KeptFrom};

@@ -1,7 +1,6 @@
 // The best order of a sheet's tasks under a worth book.
 #![tactic(auto)]
 
-ghost use Rattle.std.specs.Prelude.{◌≡◌};
 ghost use Rattle.plan.specs.Planned.{Planned};
 ghost use Rattle.sheet.specs.Sheets.{table};
 

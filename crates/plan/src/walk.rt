@@ -1,5 +1,5 @@
 // The walk along the cells that finds the first of the best orders.
-ghost use Rattle.std.specs.Prelude.{◌≡◌, ◌≢◌, ◌+◌, ◌^◌, ◌≤◌, ◌<◌, length, slice_index, take};
+ghost use Rattle.std.specs.Prelude.{◌+◌, ◌^◌, ◌≤◌, ◌<◌, length, slice_index, take};
 ghost use Rattle.plan.specs.Cells.{Filled};
 ghost use Rattle.plan.specs.Next.{First};
 ghost use Rattle.plan.specs.Planned.{KeptFrom};

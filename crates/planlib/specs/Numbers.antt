@@ -10,7 +10,8 @@
 --     counted r           what step_make answers
 --     answered r          what is answered for what plan answers
 --     Numbered m ..       plan keeps its promise for what is made, and its answer is told by one number
---     Plans r ..          what step_plan answers and leaves: the cells are `cells` before and `cells'` after, the order `order` and `order'`
+--     Plans r ..          what step_plan answers and leaves: the cells are `cells` before and `cells'` after, the order `order` and
+--                         `order'`
 use Rattle.std.specs.Prelude.{◌≡◌, List, [], ◌∷◌, ℕ, ◌+◌, ◌<◌, ◌==◌, min, length, slice_index_or, Result, Ok, Err, IfOk, if◌then◌else◌}
 use Rattle.common.specs.Refusals.{number}
 use Rattle.common.specs.declared.refusal.Refusal.{Refusal}
