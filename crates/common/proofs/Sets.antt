@@ -4,11 +4,12 @@ use Rattle.std.proofs.lemmas.Bool.{cases_eq, cases_lt}
 use Rattle.std.proofs.lemmas.Bool.Decides.{Decides-below_or, Decides-eqb, Decides-like, nat_tests}
 use Rattle.std.proofs.Math.Bool.{or_comm}
 use Rattle.std.proofs.lemmas.Grind.{common_steps}
-use Rattle.std.proofs.lemmas.Nat.{and-not, and_comm, one_shl, or_lt, pow_below, pow_pos}
+use Rattle.std.proofs.lemmas.Nat.{and-not, and_comm, one_shl, ones_cat, or_lt, pow_below, pow_pos, shr_split}
 use Rattle.std.proofs.lemmas.Nat.Bits.{and_pow, bit_at-lt, bit_at-pow_same, bit_at-pow_other, bit_at-trailing_zeros, bit_at-zero, bit_at_above, bit_at_ones, bit_at_ones_above, bit_at_and, bit_at_or, same_from_bits, shr_and_one}
-use Rattle.std.proofs.Math.Nat.{div-eq-sub-div}
+use Rattle.std.proofs.Math.Nat.{div-eq-sub-div, mod-lt}
 use Rattle.std.specs.Int.{w16}
-use lib.Count.{count_trailing_zeros}
+use Rattle.std.specs.Int.RustNames.{count_ones}
+use lib.Count.{count_trailing_zeros, ones_step}
 use lib.Bits.{or_add_and}
 use Rattle.common.specs.Sets.{has, adding, removing, any, sum_where}
 
@@ -73,6 +74,10 @@ pub bits_below_lowest : (s u : ℕ) → 0 < s → s < 65536 → u < count_traili
 unfolding has
 bits_below_lowest s u pos small lt = ap (λ x. eqb x 1) ((bit_at-trailing_zeros w16 s pos small).2 u lt)
 
+pub bits_joined : (a b u : ℕ) → has (bit_or a b) u ≡ (has a u || has b u)
+unfolding has
+bits_joined a b u = grind (arith, nat_tests, bit_at_or a b u, bit_at-lt a u, bit_at-lt b u)
+
 pub bits_within : (a b : ℕ) → Decides (eqb (bit_and a b) a) ((u : ℕ) → has a u ≡ true → has b u ≡ true)
 unfolding has
 bits_within a b =
@@ -82,7 +87,7 @@ bits_within a b =
     (Decides-eqb (bit_and a b) a)
 
 -- what finds that the code's operations on bits are those of sets
-pub ruleset members = (has-past, has-none, has-adding, has-removing, bits_contain, bits_with, bits_without, bits_lowest, bits_below_lowest, bits_within)
+pub ruleset members = (has-past, has-none, has-adding, has-removing, bits_contain, bits_with, bits_without, bits_lowest, bits_below_lowest, bits_joined, bits_within)
 
 -- ---- what some number passes, and sums
 
@@ -123,6 +128,27 @@ sum-adding f s k (suc n) out lt =
 pub sum-none : (p : ℕ → Bool) (f : ℕ → ℕ) (n : ℕ) → ((k : ℕ) → k < n → p k ≡ false) → sum_where p f n ≡ 0
 sum-none p f zero none = refl
 sum-none p f (suc n) none = grind (arith, common_steps, sum-none p f n (λ k h. none k (omega arith)), none n)
+
+-- a set of one member more counts one more
+pub ones-adding : (s k : ℕ) → has s k ≡ false → count_ones (adding s k) ≡ count_ones s + 1
+unfolding has
+ones-adding s k out =
+    let q = s / 2 ^ k in
+    let low = mod-lt s (pow_pos k) in
+    let split = shr_split s k in
+    let even : q % 2 ≡ 0 = grind (arith, nat_tests, bit_at-lt s k) in
+    let whole : adding s k ≡ (q + 1) * 2 ^ k + s % 2 ^ k = grind (arith, nat_tests) in
+    let half : (q + 1) / 2 ≡ q / 2 = omega arith in
+    omega (
+      arith,
+      ap count_ones whole,
+      ones_cat k (q + 1) (s % 2 ^ k) low,
+      ones_cat k q (s % 2 ^ k) low,
+      ap count_ones split,
+      ones_step (q + 1),
+      ones_step q,
+      ap count_ones half,
+    )
 
 -- ---- one member less
 

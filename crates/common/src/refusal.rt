@@ -33,6 +33,12 @@ pub enum Refusal {
     NoOrder = 10,
     // The memory lent to a plan is too short. It comes before all others.
     Memory = 14,
+    // The task is in the row.
+    Placed = 15,
+    // A direct predecessor of the task is not in the row.
+    NotReady = 16,
+    // No lawful order begins with the row and then the task.
+    NoOrderSo = 17,
 }
 
 impl Refusal {
@@ -63,6 +69,9 @@ impl fmt::Display for Refusal {
             Refusal::StepsFull => "six steps are there",
             Refusal::NoOrder => "no order is lawful",
             Refusal::Memory => "the memory is too short",
+            Refusal::Placed => "the task is placed already",
+            Refusal::NotReady => "a direct predecessor is not placed",
+            Refusal::NoOrderSo => "no lawful order begins so",
         })
     }
 }

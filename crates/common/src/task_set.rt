@@ -43,6 +43,13 @@ impl TaskSet {
         TaskSet(self.0 & !(1 << t))
     }
 
+    // The members of both sets.
+    pub fn joined(self, other: TaskSet) -> TaskSet
+        ensures { (u : ℕ) → has result.0 u ≡ (has self.0 u || has other.0 u) }
+    {
+        TaskSet(self.0 | other.0)
+    }
+
     // Whether each member is in the other set too.
     pub fn within(self, other: TaskSet) -> bool
         ensures { IsTrue result ↔ ((u : ℕ) → has self.0 u ≡ true → has other.0 u ≡ true) }

@@ -1,5 +1,5 @@
 -- A set has a continuation exactly where its table fits after it; so a sheet has a lawful order exactly where it fits. Assumes nothing.
-use Rattle.std.proofs.Common.{Decides, ◌≡◌, ◌↔◌, refl, Bool, true, false, not, ◌⊎◌, inl, inr, ⊎_elim, [], ◌∷◌, ℕ, zero, suc, ◌+◌, ◌<◌, ◌≤◌, arith, length, Some, pos, ◌≤ℤ◌}
+use Rattle.std.proofs.Common.{Decides, ◌≡◌, ◌↔◌, refl, sym, cond, Bool, true, false, not, ◌⊎◌, inl, inr, ⊎_elim, [], ◌∷◌, ℕ, zero, suc, ◌+◌, ◌<◌, ◌≤◌, arith, length, Some, None, option_map, pos, ◌≤ℤ◌}
 use Rattle.std.proofs.lemmas.Bool.{and_parts, both_ways, not-true, not_from_false, cases_Bool}
 use Rattle.std.proofs.lemmas.Bool.Decides.{Decides-and, Decides-or, nat_tests}
 use Rattle.std.proofs.lemmas.Int.{ints}
@@ -8,15 +8,15 @@ use Rattle.common.specs.Sets.{adding, has, sum_where}
 use Rattle.common.specs.declared.ticks.Margin.{Margin}
 use Rattle.plan.proofs.Leading.{Lead, Ready, added, adding-cases, asks-after, asks-before, asks-own, asks-task, due-time, lead, ready, stays, up-task}
 use Rattle.plan.proofs.Orders.{end-all, ended, goes-on, lawful-from, lawful-to, load-adding, went-may, went-rest}
-use Rattle.plan.specs.Feasible.{FitsAfter, asks, pressing}
 use Rattle.plan.specs.Next.{May}
 use Rattle.plan.specs.Orders.{Continuation, Lawful, Order, maximum}
 use Rattle.sheet.proofs.Ancestors.{ancestors, closed-up}
-use Rattle.sheet.proofs.Loads.{load-same}
+use Rattle.sheet.proofs.Margins.{fits-none}
 use Rattle.sheet.proofs.Paths.{Up, up-decides}
 use Rattle.sheet.proofs.Rules.{Sound}
-use Rattle.sheet.specs.Links.{Closed, up}
-use Rattle.sheet.specs.Margins.{Fits, demand, left_at, margin_for, needed}
+use Rattle.sheet.specs.Links.{Closed, linked, up}
+use Rattle.sheet.specs.Margins.{Fits, deadline_of}
+use Rattle.sheet.specs.Remaining.{FitsAfter, asks, left_after, pressing}
 use Rattle.sheet.specs.Tables.{Table, load_of, maximum_of, task_of}
 use Rattle.sheet.specs.declared.table.Kind.{Kind}
 use Rattle.sheet.specs.declared.table.Kind.TheVariants.{Plain, Soft, Hard}
@@ -24,8 +24,12 @@ use Rattle.sheet.specs.declared.table.Kind.TheVariants.{Plain, Soft, Hard}
 abbrev load : Table → (ℕ → Bool) → ℕ
 load t p = load_of maximum_of t p
 
-closed-adding : (t : Table) (s k : ℕ) → Closed t s → May t s k → Closed t (adding s k)
+pub closed-adding : (t : Table) (s k : ℕ) → Closed t s → May t s k → Closed t (adding s k)
 closed-adding t s k closed may a b l h = grind (arith, nat_tests, has-adding s k a, has-adding s k b, closed a b l, may.ready a)
+
+-- what FitsAfter says, of deadlines
+abbrev Room : Table → ℕ → Type 0
+Room t s = (h d : ℕ) → has s h ≡ false → (task_of t h).kind ≡ Hard d → load t (pressing t s d) ≤ d
 
 module _ (t : Table) (r : Sound t) where
   abbrev Pressing : (s d u : ℕ) → Type 0
@@ -95,7 +99,7 @@ module _ (t : Table) (r : Sound t) where
       let may = went-may t s k o c in
       kept-before s k d closed may (kept o (adding s k) d (closed-adding t s k closed may) (went-rest t s k o c))
 
-  fits-from : (s : ℕ) (o : Order) → Closed t s → Continuation t s o → FitsAfter t s
+  fits-from : (s : ℕ) (o : Order) → Closed t s → Continuation t s o → Room t s
   fits-from s o closed c h d out e = ⊎_elim (λ fits. fits) (λ none. absurd (none h (asks-own t s d h out e))) (kept o s d closed c)
 
   -- ---- to a continuation
@@ -104,24 +108,25 @@ module _ (t : Table) (r : Sound t) where
   grown : (s d u h : ℕ) → asks t s d h ≡ true → Up t u h → (v : ℕ) → has (adding s u) v ≡ true → pressing t s d v ≡ true
   grown s d u h e p v m = ⊎_elim (λ q. rw q (above s d u h e p)) (member s d v) (adding-cases s u v m)
 
+  -- a ready task may come next where all that is left fits
+  ready-may : (s u : ℕ) → u < length t → has s u ≡ false → ((a : ℕ) → linked t a u ≡ true → has s a ≡ true) → Room t s → May t s u
+  ready-may s u task out ready' fits = record { task = task; out = out; ready = ready'; timely = timely }
+    where
+      timely : (d : ℕ) → (task_of t u).kind ≡ Hard d → load t (has s) + maximum t u ≤ d
+      timely d e =
+          omega (
+            arith,
+            fits u d out e,
+            load-adding t s u task out,
+            sum-within _ (pressing t s d) (maximum t) (grown s d u u (asks-own t s d u out e) (inl refl)) (length t),
+          )
+
   -- a ready task of the up-set of the one that leads may come next, and all that is left fits after it
-  module _ (s h u : ℕ) (lead : Lead t s (length t) h) (low : Ready t r s h u) (fits : FitsAfter t s) where
+  module _ (s h u : ℕ) (lead : Lead t s (length t) h) (low : Ready t r s h u) (fits : Room t s) where
     next-may : May t s u
-    next-may = record { task = task; out = low.out; ready = low.ready; timely = timely }
-      where
-        task : u < length t
-        task = up-task t r u h lead.task low.up
+    next-may = ready-may s u (up-task t r u h lead.task low.up) low.out low.ready fits
 
-        timely : (d : ℕ) → (task_of t u).kind ≡ Hard d → load t (has s) + maximum t u ≤ d
-        timely d e =
-            omega (
-              arith,
-              fits u d low.out e,
-              load-adding t s u task low.out,
-              sum-within _ (pressing t s d) (maximum t) (grown s d u u (asks-own t s d u low.out e) (inl refl)) (length t),
-            )
-
-    next-fits : FitsAfter t (adding s u)
+    next-fits : Room t (adding s u)
     next-fits x d out e =
         omega (
           arith,
@@ -134,11 +139,11 @@ module _ (t : Table) (r : Sound t) where
         ask : asks t s d x ≡ true
         ask = asks-before t s u d x (asks-own t (adding s u) d x out e)
 
-  coming : (s h : ℕ) → Lead t s (length t) h → FitsAfter t s → (u : ℕ) × May t s u × FitsAfter t (adding s u)
+  coming : (s h : ℕ) → Lead t s (length t) h → Room t s → (u : ℕ) × May t s u × Room t (adding s u)
   coming s h l fits = let k = ready t r (suc (ancestors t h)) s h (omega arith) l.out in (k.0, next-may s h k.0 l k.1 fits, next-fits s h k.0 l k.1 fits)
 
   -- no task is left, or one may come next after which all that is left fits
-  pub next : (s : ℕ) → FitsAfter t s → ((u : ℕ) → u < length t → has s u ≡ true) ⊎ ((u : ℕ) × May t s u × FitsAfter t (adding s u))
+  next : (s : ℕ) → Room t s → ((u : ℕ) → u < length t → has s u ≡ true) ⊎ ((u : ℕ) × May t s u × Room t (adding s u))
   next s fits = ⊎_elim inl (λ m. inr (coming s m.0 m.1 fits)) (lead t s (length t))
 
   -- how many tasks are left
@@ -156,7 +161,7 @@ module _ (t : Table) (r : Sound t) where
   going-on : (s u : ℕ) → May t s u → (o : Order) × Continuation t (adding s u) o → (o : Order) × Continuation t s o
   going-on s u may rest = (u ∷ rest.0, goes-on t s u rest.0 may rest.1)
 
-  goes : (n s : ℕ) → left s < n → Closed t s → FitsAfter t s → (o : Order) × Continuation t s o
+  goes : (n s : ℕ) → left s < n → Closed t s → Room t s → (o : Order) × Continuation t s o
   goes zero s lt closed fits = absurd (omega arith)
   goes (suc n) s lt closed fits =
       ⊎_elim
@@ -164,32 +169,41 @@ module _ (t : Table) (r : Sound t) where
       (λ u. going-on s u.0 u.1 (goes n (adding s u.0) (omega (arith, left-less s u.0 u.1.task u.1.out)) (closed-adding t s u.0 closed u.1) u.2))
       (next s fits)
 
-  pub fits-after : (s : ℕ) → Closed t s → FitsAfter t s ↔ ((o : Order) × Continuation t s o)
-  fits-after s closed = (goes (suc (left s)) s (omega arith) closed, λ c. fits-from s c.0 closed c.1)
+  room-after : (s : ℕ) → Closed t s → Room t s ↔ ((o : Order) × Continuation t s o)
+  room-after s closed = (goes (suc (left s)) s (omega arith) closed, λ c. fits-from s c.0 closed c.1)
 
--- ---- a margin below 0, and the empty set
+-- ---- margins
 
-closed-none : (t : Table) → Closed t 0
+-- a margin that is there is not below 0, where what presses is done by the deadline
+met : (t : Table) (s : ℕ) (kind : Kind) (m : Margin) → option_map (left_after t s) (deadline_of kind) ≡ Some m → ((d : ℕ) → kind ≡ Hard d → load t (pressing t s d) ≤ d)
+    → pos 0 ≤ℤ m.0
+met t s Plain m e f = absurd (cc)
+met t s Soft m e f = absurd (cc)
+met t s (Hard d) m e f = let h = f d refl in let q : m ≡ left_after t s d = cc in rw q (omega (arith, ints))
+
+room-of : (t : Table) (s : ℕ) → FitsAfter t s → Room t s
+room-of t s fits h d out e = let z = fits h (left_after t s d) (rw out (rw e refl)) in omega (arith, ints)
+
+room-fits : (t : Table) (s : ℕ) → Room t s → FitsAfter t s
+room-fits t s room k m e = outside (has s k) refl e
+  where
+    outside : (b : Bool) → b ≡ has s k → cond b None (option_map (left_after t s) (deadline_of (task_of t k).kind)) ≡ Some m → pos 0 ≤ℤ m.0
+    outside true is e' = absurd (cc)
+    outside false is e' = met t s (task_of t k).kind m e' (λ d q. room k d (sym is) q)
+
+pub fits-after : (t : Table) → Sound t → (s : ℕ) → Closed t s → FitsAfter t s ↔ ((o : Order) × Continuation t s o)
+fits-after t r s closed = let both = room-after t r s closed in (λ f. both.0 (room-of t s f), λ c. room-fits t s (both.1 c))
+
+pub fits-may : (t : Table) → Sound t → (s k : ℕ) → k < length t → has s k ≡ false → ((a : ℕ) → linked t a k ≡ true → has s a ≡ true) → FitsAfter t s → May t s k
+fits-may t r s k lt out ready' fits = ready-may t r s k lt out ready' (room-of t s fits)
+
+-- ---- the empty set
+
+pub closed-none : (t : Table) → Closed t 0
 closed-none t a b l h = absurd (both_ways _ (has-none b) h)
-
--- what presses with no task done is what is needed
-demand-none : (t : Table) (d : ℕ) → load t (pressing t 0 d) ≡ demand t d
-unfolding demand needed pressing
-demand-none t d = load-same maximum_of t (pressing t 0 d) (needed t d) (λ u. simp has-none)
-
--- a margin that is there is not below 0, where the demand is within the deadline
-met : (t : Table) (kind : Kind) (m : Margin) → margin_for t kind ≡ Some m → ((d : ℕ) → kind ≡ Hard d → demand t d ≤ d) → pos 0 ≤ℤ m.0
-met t Plain m e f = absurd (cc)
-met t Soft m e f = absurd (cc)
-met t (Hard d) m e f = let h = f d refl in let q : m ≡ left_at t d = cc in rw q (omega (arith, ints))
-
-fits-to : (t : Table) → Fits t → FitsAfter t 0
-fits-to t fits h d out e = let z = fits h (left_at t d) (rw e refl) in omega (arith, ints, demand-none t d)
-
-fits-back : (t : Table) → FitsAfter t 0 → Fits t
-fits-back t fits k m e = met t (task_of t k).kind m e (λ d q. omega (arith, fits k d (has-none k) q, demand-none t d))
 
 pub fits-tells : (t : Table) → Sound t → Fits t ↔ ((o : Order) × Lawful t o)
 fits-tells t r =
     let none = fits-after t r 0 (closed-none t) in
-    (λ f. let c = none.0 (fits-to t f) in (c.0, lawful-from t c.0 c.1), λ l. fits-back t (none.1 (l.0, lawful-to t l.0 l.1)))
+    let fits = fits-none t in
+    (λ f. let c = none.0 (fits.1 f) in (c.0, lawful-from t c.0 c.1), λ l. fits.0 (none.1 (l.0, lawful-to t l.0 l.1)))

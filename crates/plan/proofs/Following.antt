@@ -4,11 +4,12 @@ use Rattle.std.proofs.lemmas.Bool.{both_ways}
 use Rattle.std.proofs.lemmas.Bool.Decides.{nat_tests}
 use Rattle.book.specs.Worths.{Meaning, Sound}
 use Rattle.common.specs.Sets.{adding, has}
-use Rattle.plan.proofs.Runs.{cell-small, expected-small, expected-task, maximum-small, maximum-task}
+use Rattle.plan.proofs.Runs.{cell-small}
 use Rattle.plan.proofs.Greatest.{next-goes}
 use Rattle.plan.specs.Cells.{Cell}
 use Rattle.plan.specs.Next.{May, Next}
 use Rattle.plan.specs.Orders.{expected, maximum}
+use Rattle.sheet.proofs.Loads.{expected-small, expected-task, maximum-small, maximum-task}
 use Rattle.sheet.proofs.Rules.{sound-of}
 use Rattle.sheet.proofs.Tables.{few-listed}
 use Rattle.sheet.specs.Links.{linked}

@@ -5,7 +5,7 @@ use Rattle.std.proofs.lemmas.Bool.Decides.{Decides-and, nat_tests}
 use Rattle.std.proofs.lemmas.List.{get_or_past}
 use Rattle.common.proofs.Sets.{any-decides, has-adding}
 use Rattle.common.specs.Sets.{adding, any, has}
-use Rattle.plan.specs.Feasible.{asks}
+use Rattle.sheet.specs.Remaining.{asks}
 use Rattle.sheet.proofs.Ancestors.{ancestors, fewer}
 use Rattle.sheet.proofs.Paths.{Up, climb}
 use Rattle.sheet.proofs.Rules.{Sound}

@@ -1,26 +1,24 @@
 -- How much can be left to earn, and what runs of an order earn. Assumes nothing.
-use Rattle.std.proofs.Common.{◌≡◌, ap, Bool, cond, ⊎_elim, [], ◌∷◌, ◌++◌, ℕ, ◌+◌, ◌*◌, ◌<◌, ◌≤◌, arith, eqb, length, mul-suc, mul-le-mul_left}
+use Rattle.std.proofs.Common.{◌≡◌, ap, cond, ⊎_elim, [], ◌∷◌, ◌++◌, ℕ, ◌+◌, ◌*◌, ◌<◌, ◌≤◌, arith, eqb, length, mul-suc, mul-le-mul_left}
 use Rattle.std.proofs.lemmas.Bool.Decides.{nat_tests}
 use Rattle.std.proofs.lemmas.List.Sums.{sum_by-append, sum_by-cons}
 use Rattle.book.specs.Worths.{Meaning, Sound, top}
 use Rattle.std.specs.Prelude.{sum_by}
-use Rattle.common.proofs.Sets.{sum-small}
 use Rattle.common.specs.Sets.{has}
 use Rattle.plan.proofs.Orders.{times-cons}
 use Rattle.plan.proofs.Walks.{length-left}
 use Rattle.plan.specs.Cells.{Cell, left}
 use Rattle.plan.specs.Orders.{Continuation, Lawful, Order, expected, maximum, times}
 use Rattle.plan.specs.Totals.{Runs, earned, earns}
-use Rattle.sheet.proofs.Rules.{Sound as SoundTable}
-use Rattle.sheet.specs.Tables.{Table, blank, expected_of, load_of, maximum_of, task_of}
+use Rattle.sheet.specs.Tables.{Table, expected_of, load_of}
 
 -- ---- sums are small
 
 module _ (m : Meaning) (sound : Sound m) (t : Table) where
-  earns-small : (k at : ℕ) → earns m t k at ≤ top
+  pub earns-small : (k at : ℕ) → earns m t k at ≤ top
   earns-small k at = let b = sound.bounded k at in grind (arith, nat_tests)
 
-  earned-small : (r : ℕ → ℕ) (from : ℕ) (o : Order) → earned m t r from o ≤ top * length o
+  pub earned-small : (r : ℕ → ℕ) (from : ℕ) (o : Order) → earned m t r from o ≤ top * length o
   earned-small r from [] = omega arith
   earned-small r from (k ∷ o) = omega (arith, earns-small k (from + r k), earned-small r (from + r k) o, mul-suc top (length o))
 
@@ -86,20 +84,3 @@ module _ (m : Meaning) (sound : Sound m) (t : Table) where
 
       earlier : (before : Order) (k : ℕ) (behind : Order) (j : ℕ) → o ≡ before ++ k ∷ behind → 0 < times j before → 0 < times j o
       earlier before k behind j e pos = omega (arith, ap (times j) e, times-in before behind k j)
-
--- ---- no sum over a sheet wraps
-
-module _ (t : Table) (r : SoundTable t) where
-  pub maximum-task : (k : ℕ) → k < length t → maximum_of (task_of t k) ≤ 65535
-  unfolding maximum_of
-  maximum-task k lt = let l = r.lasting k blank lt in omega arith
-
-  pub expected-task : (k : ℕ) → k < length t → expected_of (task_of t k) ≤ 65535
-  unfolding expected_of
-  expected-task k lt = let l = r.lasting k blank lt in omega arith
-
-  pub maximum-small : (p : ℕ → Bool) → load_of maximum_of t p ≤ 65535 * length t
-  maximum-small p = sum-small p (λ k. maximum_of (task_of t k)) 65535 (length t) maximum-task
-
-  pub expected-small : (p : ℕ → Bool) → load_of expected_of t p ≤ 65535 * length t
-  expected-small p = sum-small p (λ k. expected_of (task_of t k)) 65535 (length t) expected-task

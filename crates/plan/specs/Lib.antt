@@ -3,4 +3,3 @@ pub mod Totals
 pub mod Cells
 pub mod Planned
 pub mod Next
-pub mod Feasible

@@ -2,11 +2,11 @@
 ghost use Rattle.std.specs.Prelude.{◌≡◌, ◌↔◌, ◌<◌, ℕ};
 ghost use Rattle.book.specs.Worths.{Meaning};
 ghost use Rattle.plan.specs.Cells.{Cell};
-ghost use Rattle.plan.specs.Feasible.{FitsAfter};
 ghost use Rattle.plan.specs.Orders.{Continuation, Lawful, NoLawful, Order};
 ghost use Rattle.plan.specs.Totals.{Best};
 ghost use Rattle.sheet.specs.Links.{Closed};
 ghost use Rattle.sheet.specs.Margins.{Fits};
+ghost use Rattle.sheet.specs.Remaining.{FitsAfter};
 ghost use Rattle.sheet.specs.Sheets.{table};
 ghost use Rattle.sheet.specs.Tables.{Table};
 

@@ -14,6 +14,7 @@ mod next;
 mod walk;
 
 pub use laws::{best_is_unique, cells_decide, margins_decide};
+pub use next::earns;
 
 // Writes to the front of `order` the lawful order of greatest total, the first of equals, and answers that total. `cells` is
 // memory for one number for each set of tasks; afterwards each holds one more than the greatest total that is left from its set

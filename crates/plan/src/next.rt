@@ -68,12 +68,12 @@ impl<'a> Start<'a> {
             return 0;
         }
         let task = &self.sheet.tasks()[usize::from(t)];
-        rest + worth(book, t, task.kind, self.load.expected.plus(task.expected()))
+        rest + earns(book, t, task.kind, self.load.expected.plus(task.expected()))
     }
 }
 
 // What task t earns if it ends at this time: nothing unless it is soft.
-fn worth<B: Book>(book: &B, t: u8, kind: Kind, at: Expected) -> u32
+pub fn earns<B: Book>(book: &B, t: u8, kind: Kind, at: Expected) -> u32
     ensures { result ≡ (if is_soft kind then B.meaning book.now t at.0 else 0) }
 {
     if kind == Kind::Soft {

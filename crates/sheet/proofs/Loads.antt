@@ -1,9 +1,9 @@
 -- How long tasks take, alone and together. Assumes nothing.
 use Rattle.std.proofs.Common.{◌≡◌, refl, Bool, true, false, ℕ, ◌+◌, ◌*◌, ◌<◌, ◌≤◌, arith, length, min}
-use Rattle.common.proofs.Sets.{removing-less, sum-less, sum-none, sum-removing, sum-same}
+use Rattle.common.proofs.Sets.{removing-less, sum-less, sum-none, sum-removing, sum-same, sum-small}
 use Rattle.common.specs.Sets.{has, removing}
 use Rattle.sheet.proofs.Rules.{Sound}
-use Rattle.sheet.specs.Tables.{Table, blank, expected_of, load_of, task_of}
+use Rattle.sheet.specs.Tables.{Table, blank, expected_of, load_of, maximum_of, task_of}
 use Rattle.sheet.specs.declared.table.Task.{Task}
 
 -- ---- one task
@@ -11,6 +11,22 @@ use Rattle.sheet.specs.declared.table.Task.{Task}
 pub expected-pos : (t : Table) → Sound t → (k : ℕ) → k < length t → 0 < expected_of (task_of t k)
 unfolding expected_of
 expected-pos t r k lt = let l = r.lasting k blank lt in omega arith
+
+module _ (t : Table) (r : Sound t) where
+  pub maximum-task : (k : ℕ) → k < length t → maximum_of (task_of t k) ≤ 65535
+  unfolding maximum_of
+  maximum-task k lt = let l = r.lasting k blank lt in omega arith
+
+  pub expected-task : (k : ℕ) → k < length t → expected_of (task_of t k) ≤ 65535
+  unfolding expected_of
+  expected-task k lt = let l = r.lasting k blank lt in omega arith
+
+  -- so no sum over a sheet wraps
+  pub maximum-small : (p : ℕ → Bool) → load_of maximum_of t p ≤ 65535 * length t
+  maximum-small p = sum-small p (λ k. maximum_of (task_of t k)) 65535 (length t) maximum-task
+
+  pub expected-small : (p : ℕ → Bool) → load_of expected_of t p ≤ 65535 * length t
+  expected-small p = sum-small p (λ k. expected_of (task_of t k)) 65535 (length t) expected-task
 
 -- ---- tasks together
 

@@ -1,24 +1,53 @@
 -- Demands and margins. Assumes nothing.
-use Rattle.std.proofs.Common.{◌≡◌, ◌↔◌, refl, sym, ◌∙◌, Bool, true, All, IsTrue, List, ⊎_elim, ℕ, ◌≤◌, arith, pos, ◌≤ℤ◌, get_or, Option, Some, None, length}
+use Rattle.std.proofs.Common.{◌≡◌, ◌↔◌, refl, sym, ap, ◌∙◌, Bool, true, false, All, IsTrue, List, ⊎_elim, ℕ, ◌≤◌, arith, cond, pos, ◌-ℤ◌, ◌≤ℤ◌, get_or, Option, Some, None, length, option_map}
 use Rattle.std.proofs.lemmas.Int.{ints}
 use Rattle.std.proofs.lemmas.Bool.{cases_lt}
 use Rattle.std.proofs.lemmas.List.{get_or_default, get_or_past}
 use Rattle.std.specs.Prelude.{int_le, int_lt}
 use Rattle.sheet.proofs.Loads.{load-same}
+use Rattle.common.proofs.Sets.{has-none}
 use Rattle.common.specs.Ranks.{FirstPresent}
 use Rattle.common.specs.Sets.{has}
 use Rattle.common.specs.declared.ticks.Margin.{Margin}
-use Rattle.sheet.specs.Margins.{Fits, Tightest, demand, margin_of, needed}
-use Rattle.sheet.specs.Tables.{Table, blank, load_of, maximum_of}
+use Rattle.sheet.specs.Margins.{Fits, Tightest, deadline_of, demand, margin_for, margin_of, needed}
+use Rattle.sheet.specs.Remaining.{FitsAfter, left_after, margin_after, pressing}
+use Rattle.sheet.specs.Tables.{Table, blank, load_of, maximum_of, task_of}
+use Rattle.sheet.specs.declared.table.Kind.{Kind}
+use Rattle.sheet.specs.declared.table.Kind.TheVariants.{Plain, Soft, Hard}
 
--- the load of the tasks that must have ended by d is the demand at d
-pub demand_is : (t : Table) (d s : ℕ) → ((u : ℕ) → has s u ≡ needed t d u) → load_of maximum_of t (has s) ≡ demand t d
-unfolding demand
-demand_is t d s e = load-same maximum_of t (has s) (needed t d) e
+-- what the code works out for a deadline
+pub left_is : (t : Table) (done d s : ℕ) → ((u : ℕ) → has s u ≡ pressing t done d u) → load_of maximum_of t (has s) ≡ load_of maximum_of t (pressing t done d)
+left_is t done d s e = load-same maximum_of t (has s) (pressing t done d) e
 
 -- a number that no task has has no margin
+pub no-margin-after : (t : Table) (s k : ℕ) → length t ≤ k → margin_after t s k ≡ None
+no-margin-after t s k ge = rw (get_or_past t k blank ge) (at (has s k))
+  where
+    at : (b : Bool) → cond b None (option_map (left_after t s) (deadline_of blank.kind)) ≡ None
+    at true = refl
+    at false = refl
+
 pub no-margin : (t : Table) (k : ℕ) → length t ≤ k → margin_of t k ≡ None
 no-margin t k ge = rw (get_or_past t k blank ge)
+
+-- ---- where nothing has run
+
+demand-none : (t : Table) (d : ℕ) → load_of maximum_of t (pressing t 0 d) ≡ demand t d
+unfolding demand needed pressing
+demand-none t d = load-same maximum_of t (pressing t 0 d) (needed t d) (λ u. simp has-none)
+
+kind-none : (t : Table) (kind : Kind) → option_map (left_after t 0) (deadline_of kind) ≡ margin_for t kind
+kind-none t Plain = refl
+kind-none t Soft = refl
+kind-none t (Hard d) = let at : ℕ → Option Margin = λ n. Some (record { 0 = pos d -ℤ pos n }) in ap at (demand-none t d)
+
+pub margin_none : (t : Table) (k : ℕ) → margin_after t 0 k ≡ margin_of t k
+margin_none t k = ap (λ (b : Bool). cond b None (option_map (left_after t 0) (deadline_of (task_of t k).kind))) (has-none k) ∙ kind-none t (task_of t k).kind
+
+pub fits-none : (t : Table) → FitsAfter t 0 ↔ Fits t
+fits-none t = (λ f k m h. f k m (margin_none t k ∙ h), λ f k m h. f k m (sym (margin_none t k) ∙ h))
+
+-- ---- the least margin, and all of them
 
 -- the first best of the margins that are there
 pub tightest-is : (t : Table) (ms : List (Option Margin)) → ((k : ℕ) → get_or ms k None ≡ margin_of t k) → (k : ℕ) → FirstPresent (λ (x y : Margin). int_lt x.0 y.0) ms k → Tightest t k
@@ -36,19 +65,19 @@ is_met None = true
 is_met (Some m) = int_le (pos 0) m.0
 
 -- none of the margins that are there is below 0
-pub fits_is : (t : Table) (ms : List (Option Margin)) → ((k : ℕ) → get_or ms k None ≡ margin_of t k) → (met : Bool) → IsTrue met ↔ All (λ o. IsTrue (is_met o)) ms → IsTrue met ↔ Fits t
-fits_is t ms lists met all = (λ e. to (all.0 e), λ f. all.1 (from f))
+pub fits_is : (t : Table) (s : ℕ) (ms : List (Option Margin)) → ((k : ℕ) → get_or ms k None ≡ margin_after t s k) → (met : Bool) → IsTrue met ↔ All (λ o. IsTrue (is_met o)) ms → IsTrue met ↔ FitsAfter t s
+fits_is t s ms lists met all = (λ e. to (all.0 e), λ f. all.1 (from f))
   where
     is : (o : Option Margin) → ((m : Margin) → o ≡ Some m → pos 0 ≤ℤ m.0) → is_met o ≡ true
     is None each = refl
     is (Some m) each = let z = each m refl in grind (arith, ints)
 
-    to : All (λ o. IsTrue (is_met o)) ms → Fits t
+    to : All (λ o. IsTrue (is_met o)) ms → FitsAfter t s
     to all k m h =
         ⊎_elim
         (λ lt. let z = rw (lists k ∙ h) at (all k None lt) in grind (arith, ints))
         (λ ge. cc (get_or_past ms k None ge, lists k))
         (cases_lt k (length ms))
 
-    from : Fits t → All (λ o. IsTrue (is_met o)) ms
+    from : FitsAfter t s → All (λ o. IsTrue (is_met o)) ms
     from f k d lt = is _ (λ m h. f k m (sym (lists k) ∙ get_or_default ms k None d lt ∙ h))

@@ -4,6 +4,7 @@ pub mod Rules
 pub mod Calls
 pub mod Linking
 pub mod Margins
+pub mod Remaining
 pub mod Lists
 pub mod Sheets
 pub mod Texts

@@ -43,11 +43,11 @@ returns-then-rest-eq0 g c =
 pub overflow_add-result : goal.overflow_add-result
 overflow_add-result g c =
     let d = goal.at.overflow_add-result g c in
-    omega (arith, value-fits (g.B.Book.meaning c.args.book.now) c.args.self.now.sheet.now c.args.self.now.set.0 c.args.t (g.met.B.Book.sound c.args.book.now) _ _ c.worth.result _ _ (rest g d.After-index) c.worth.ensures)
+    omega (arith, value-fits (g.B.Book.meaning c.args.book.now) c.args.self.now.sheet.now c.args.self.now.set.0 c.args.t (g.met.B.Book.sound c.args.book.now) _ _ c.earns.result _ _ (rest g d.After-index) c.earns.ensures)
 
 pub returns : goal.returns
 returns g c =
     let d = goal.at.returns g c in
     let is = ap (λ i. get_or c.tasks.result.now i blank) c.from.ensures ∙ ap (λ xs. get_or xs c.args.t blank) c.tasks.ensures in
     value-is (g.B.Book.meaning c.args.book.now) c.args.self.now.sheet.now c.args.self.now.set.0 c.args.t _ _ _ _ _ is (may g d.After-index) (rest g d.After-index) (grind (arith, common_steps)) c.args.self.now.expected
-    (c.plus.ensures ∙ ap (λ n. min (c.args.self.now.load.expected.0 + n) 4294967295) c.expected.ensures.value) c.worth.ensures
+    (c.plus.ensures ∙ ap (λ n. min (c.args.self.now.load.expected.0 + n) 4294967295) c.expected.ensures.value) c.earns.ensures

@@ -1,6 +1,6 @@
-use Rattle.std.proofs.Common.{rules}
-use Rattle.sheet.proofs.Margins.{fits_is}
+use Rattle.sheet.proofs.Margins.{fits-none}
+use Rattle.sheet.specs.Sheets.{table}
 use Rattle.sheet.proofs.sheet.Sheet.fits.Goals as goal
 
 pub returns : goal.returns
-returns c = fits_is _ _ c.margins.ensures.each _ (search rules)
+returns c = let f = fits-none (table c.args.self.now) in (λ e. f.0 (c.fits_after.ensures.0 e), λ h. c.fits_after.ensures.1 (f.1 h))
