@@ -1,0 +1,5 @@
+pub mod Laying
+pub mod Judging
+pub mod Firsts
+pub mod Figures
+pub mod Held
