@@ -1,2 +1,3 @@
 pub mod Deciding
 pub mod Plans
+pub mod Rows

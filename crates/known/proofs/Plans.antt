@@ -32,7 +32,7 @@ all-kept : (p q : Order → Bool) (os : List Order) → list_all p (filter q os)
 all-kept p q [] = refl
 all-kept p q (o ∷ os) = grind (arith, all-kept p q os, cases_Bool (q o))
 
-all-from : (p : Order → Bool) (os : List Order) → ((o : Order) → p o ≡ true) → list_all p os ≡ true
+pub all-from : (p : Order → Bool) (os : List Order) → ((o : Order) → p o ≡ true) → list_all p os ≡ true
 all-from p [] f = refl
 all-from p (o ∷ os) f = grind (arith, f o, all-from p os f)
 
@@ -40,12 +40,12 @@ any-kept : (p q : Order → Bool) (os : List Order) → list_any p (filter q os)
 any-kept p q [] = refl
 any-kept p q (o ∷ os) = grind (arith, any-kept p q os, cases_Bool (q o))
 
-any-to : (p : Order → Bool) (os : List Order) → list_any p os ≡ true → (o : Order) × (p o ≡ true)
+pub any-to : (p : Order → Bool) (os : List Order) → list_any p os ≡ true → (o : Order) × (p o ≡ true)
 any-to p [] h = absurd (cc)
 any-to p (o ∷ os) h = ⊎_elim (λ e. (o, e)) (λ e. any-to p os (grind (arith, e))) (cases_Bool (p o))
 
 -- where none passes, each fails
-none-passes : (p : Order → Bool) (os : List Order) → list_any p os ≡ false → list_all (λ o. not (p o)) os ≡ true
+pub none-passes : (p : Order → Bool) (os : List Order) → list_any p os ≡ false → list_all (λ o. not (p o)) os ≡ true
 none-passes p [] h = refl
 none-passes p (o ∷ os) h = grind (arith, none-passes p os)
 
@@ -71,7 +71,7 @@ with-first false q k os e h = sym (list_all-map q (λ o. k ∷ o) os) ∙ h
 
 -- ---- places in dictionary order
 
-before-decides : (o p : Order) → Decides (before o p) (Before o p)
+pub before-decides : (o p : Order) → Decides (before o p) (Before o p)
 before-decides [] [] = (λ h. absurd (cc), λ b. absurd b)
 before-decides [] (u ∷ p) = (λ h. tt, λ b. refl)
 before-decides (k ∷ o) [] = (λ h. absurd (cc), λ b. absurd b)
@@ -95,7 +95,7 @@ module _ (t : Table) (r : Sound t) where
       (λ m. (m.task, (m.out, ((λ a lt. m.ready a), m.timely))))
       (Decides-and _ _ (Decides-ltb k (length t)) (Decides-and _ _ (not-true _, λ e. ap not e) (Decides-and _ _ (all-in s k) (timely (task_of t k).kind _))))
 
-  goes-decides : (s : ℕ) (o : Order) → Decides (goes t s o) (Continuation t s o)
+  pub goes-decides : (s : ℕ) (o : Order) → Decides (goes t s o) (Continuation t s o)
   goes-decides s [] = Decides-like _ (ended t s) (end-all t s) (none-below (length t) _ _ (λ k. (λ h. not-false _ (not-true _ h), λ e. ap (λ x. not (not x)) e)))
   goes-decides s (k ∷ o) =
       Decides-like _
@@ -105,7 +105,7 @@ module _ (t : Table) (r : Sound t) where
 
   -- ---- every continuation is listed
 
-  listed : (q : Order → Bool) (s : ℕ) (o : Order) → Continuation t s o → list_all q (orders t (length o) s) ≡ true → q o ≡ true
+  pub listed : (q : Order → Bool) (s : ℕ) (o : Order) → Continuation t s o → list_all q (orders t (length o) s) ≡ true → q o ≡ true
   listed q s [] c h = (and_parts _ _ h).0
   listed q s (k ∷ o) c h =
       let may = went-may t s k o c in

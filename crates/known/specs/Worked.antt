@@ -3,7 +3,7 @@
 --     next t e            the table after it, also where a call is refused
 --     next_book b e       the contents of the book after it
 --     all_right t b es    each of the entries es has it, one after another from t and b
-use Rattle.std.specs.Prelude.{◌≡◌, ℕ, ◌*◌, Bool, true, false, not, ◌&&◌, List, [], ◌∷◌, pos, Some, None, Decides, Option, ◌==◌, int_lt, is_none, length, nat_le, nat_lt, option_map}
+use Rattle.std.specs.Prelude.{◌≡◌, ℕ, ◌*◌, Bool, true, false, not, ◌&&◌, List, [], ◌∷◌, pos, Some, None, Decides, Option, ◌==◌, int_lt, is_none, length, nat_le, nat_lt, option_map, sum_by}
 use Rattle.std.specs.Bool.{beq}
 use Rattle.std.specs.Option.{option_eq}
 use Rattle.std.specs.Ordering.{int_eq}
@@ -18,8 +18,12 @@ use Rattle.common.specs.Sets.{any}
 use Rattle.sheet.specs.Tables.{Table, expected_of, task_of}
 use Rattle.common.specs.declared.ticks.Margin.{Margin}
 use Rattle.known.specs.declared.entry.Entry.{Entry}
-use Rattle.known.specs.declared.entry.Entry.TheVariants.{New, OnSheet, OnBook, Linked, Expected, Above, Margin as MarginIs, Fits, Tightest, Worth, Keenest, Best, NoOrder, Cell}
+use Rattle.known.specs.declared.entry.Entry.TheVariants.{New, OnSheet, OnBook, Linked, Expected, Above, Margin as MarginIs, Fits, Tightest, Worth, Keenest, Best, NoOrder, Cell, Place, Finish, Tally}
 use Rattle.known.specs.Plans.{is_best, is_cell, none_lawful}
+use Rattle.known.specs.Rows.{is_first, is_judged, leads}
+use Rattle.plan.specs.Orders.{expected, maximum}
+use Rattle.plan.specs.Totals.{total}
+use Rattle.row.specs.Rows.{set_of}
 use Rattle.book.specs.Standard as book
 use Rattle.sheet.specs.Calls as sheet
 
@@ -72,6 +76,10 @@ right t b (Keenest None) = none_soft t
 right t b (Best o v) = is_best (worth_of b) t o.now v
 right t b NoOrder = none_lawful t
 right t b (Cell s v) = is_cell (worth_of b) t s v
+right t b (Place row k answer) = leads t row.now && is_judged t row.now k (outcome answer)
+right t b (Finish row o v) = is_first t row.now o.now && total (worth_of b) t o.now == v
+right t b (Tally row s e m v) =
+    leads t row.now && (set_of row.now == s && (sum_by (expected t) row.now == e && (sum_by (maximum t) row.now == m && total (worth_of b) t row.now == v)))
 
 abbrev pub next : Table → Entry → Table
 next t New = []

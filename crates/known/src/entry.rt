@@ -27,4 +27,11 @@ pub enum Entry {
     NoOrder,
     // What the cell of the set with this number holds.
     Cell(u16, u32),
+    // Where these tasks are placed in turn, each accepted, placing the task is then answered so.
+    Place(&'static [u8], u8, Result<(), Refusal>),
+    // Where these tasks are placed in turn, finishing gives this order, which weighs this much.
+    Finish(&'static [u8], &'static [u8], u32),
+    // Where these tasks are placed in turn, the tally: their set by its number, how long they are expected to take and take at
+    // most, and their total.
+    Tally(&'static [u8], u16, u32, u32, u32),
 }

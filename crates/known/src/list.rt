@@ -1,20 +1,23 @@
-// The worked sheets, books and plans, one after another. It is a constant, which the prover reads far faster than so long an
-// array in a body.
+// The worked sheets, books, plans and rows, one after another. It is a constant, which the prover reads far faster than so
+// long an array in a body.
 use crate::entry::Entry::{
-    self, Above, Best, Cell, Expected, Fits, Keenest, Linked, Margin, New, NoOrder, OnBook,
-    OnSheet, Tightest, Worth,
+    self, Above, Best, Cell, Expected, Finish, Fits, Keenest, Linked, Margin, New, NoOrder, OnBook,
+    OnSheet, Place, Tally, Tightest, Worth,
 };
 use book::Call::{DropSteps, Ramp, Step, Weight};
 use common::Refusal::{
-    BookRule, Circle, DeadlineRange, Durations, NoLink, OtherKind, StepsFull, UnknownTask,
+    BookRule, Circle, DeadlineRange, Durations, NoLink, NoOrderSo, NotReady, OtherKind, Placed,
+    StepsFull, UnknownTask,
 };
 use sheet::Call::{Cut, Hard, Link, Plain, Soft, Task, Time};
 
-pub const WORKED: [Entry; 207] = [
+pub const WORKED: [Entry; 232] = [
     // A sheet without tasks has one order, the empty one.
     New,
     Best(&[], 0),
     Cell(0, 1),
+    Place(&[], 0, Err(UnknownTask)),
+    Finish(&[], &[], 0),
     // The bounds of durations and deadlines; the midpoint is rounded down.
     New,
     OnSheet(Task(0, 5), Err(Durations)),
@@ -65,6 +68,14 @@ pub const WORKED: [Entry; 207] = [
     Cell(0, 13),
     Cell(1, 9),
     Cell(4, 0),
+    // Task 2 may not be placed before task 1. Finishing takes the lowest number that may come, whatever it earns.
+    Place(&[], 2, Err(NoOrderSo)),
+    Place(&[0], 0, Err(Placed)),
+    Place(&[0], 3, Err(UnknownTask)),
+    Finish(&[], &[0, 1, 2], 8),
+    Finish(&[0], &[0, 1, 2], 8),
+    Tally(&[0], 1, 1, 1, 0),
+    Tally(&[0, 1], 3, 6, 6, 0),
     // A circle is refused until it is cut; a link that is there is accepted.
     New,
     OnSheet(Task(1, 1), Ok(())),
@@ -108,6 +119,13 @@ pub const WORKED: [Entry; 207] = [
     Margin(0, Some(0)),
     Margin(1, Some(0)),
     Tightest(Some(0)),
+    // Each of them would be in time after a task of one tick, and the two together are not.
+    OnSheet(Task(1, 1), Ok(())),
+    Place(&[], 2, Err(NoOrderSo)),
+    // What is placed first delays the other, whose deadline is earlier.
+    OnSheet(Hard(0, 4), Ok(())),
+    Place(&[], 1, Err(NoOrderSo)),
+    Finish(&[], &[0, 1, 2], 0),
     // Five tasks, the fourth of them hard: only the first must have ended before it.
     New,
     OnSheet(Task(1, 7), Ok(())),
@@ -141,6 +159,18 @@ pub const WORKED: [Entry; 207] = [
     Cell(7, 0),
     Cell(14, 1),
     Cell(31, 1),
+    // Task 2 has no deadline, but behind 0 and 1 it would make task 3 late. One set in two orders has one sum and two totals.
+    Place(&[], 1, Err(NotReady)),
+    Place(&[0], 1, Ok(())),
+    Place(&[0], 2, Ok(())),
+    Place(&[0], 3, Ok(())),
+    Place(&[0, 1], 2, Err(NoOrderSo)),
+    Place(&[0, 1], 1, Err(Placed)),
+    Place(&[0, 1, 3], 4, Err(NotReady)),
+    Finish(&[0], &[0, 1, 3, 2, 4], 25),
+    Finish(&[0, 2], &[0, 2, 3, 1, 4], 17),
+    Tally(&[0, 1, 3], 11, 16, 25, 17),
+    Tally(&[0, 3, 1], 11, 16, 25, 11),
     OnBook(Ramp(1, 12, 9, 27), Ok(())),
     Keenest(Some(1)),
     // A smaller worth over fewer ticks: 7 over 2 against 30 over 10.

@@ -1,9 +1,10 @@
-// The worked sheets, books and plans, run through the code.
+// The worked sheets, books, plans and rows, run through the code.
 use crate::entry::Entry;
 use crate::worked;
 use book::{Book, StandardBook, keenest};
-use common::{Expected, Margin, Refusal};
-use sheet::Sheet;
+use common::{Expected, Margin, Maximum, Refusal, TaskSet};
+use row::{OpenRow, Tally};
+use sheet::{Load, Sheet};
 
 // What planning answers and leaves, where the sheet has at most six tasks.
 #[derive(Clone, Copy)]
@@ -24,6 +25,33 @@ impl Plan {
             order,
         }
     }
+}
+
+// The row with these tasks placed in turn, or nothing where one of them is refused.
+fn laid(sheet: &Sheet, tasks: &[u8]) -> Option<OpenRow> {
+    let (mut row, begun) = row::begin(sheet);
+    let mut accepted = begun.is_ok();
+    for t in tasks {
+        accepted = accepted && row.place(*t).is_ok();
+    }
+    if accepted { Some(row) } else { None }
+}
+
+// Whether these tasks can be placed in turn, and finishing then gives the order, which weighs so much.
+fn finishes(sheet: &Sheet, book: &StandardBook, tasks: &[u8], order: &[u8], weight: u32) -> bool {
+    match laid(sheet, tasks) {
+        Some(row) => {
+            let full = row.finish();
+            full.order() == order && full.weigh(book) == weight
+        }
+        None => false,
+    }
+}
+
+// Whether no row can be begun, and what is answered beside the refusal is an empty row on a sheet without tasks.
+fn begins_none(sheet: &Sheet) -> bool {
+    let (row, begun) = row::begin(sheet);
+    begun == Err(Refusal::NoOrder) && row.order().is_empty() && row.sheet().count() == 0
 }
 
 // Makes the call or asks the question, and says whether it has its answer. Entries are data, not closures: the definitions read
@@ -49,11 +77,35 @@ fn right(sheet: &mut Sheet, book: &mut StandardBook, entry: Entry) -> bool {
         Entry::Keenest(best) => keenest(sheet, book) == best,
         Entry::Best(order, total) => {
             let plan = Plan::of(sheet, book);
-            plan.answer == Ok(total) && plan.order.starts_with(order)
+            // A row that is laid as the best order takes each of its tasks.
+            plan.answer == Ok(total)
+                && plan.order.starts_with(order)
+                && finishes(sheet, book, order, order, total)
         }
-        Entry::NoOrder => Plan::of(sheet, book).answer == Err(Refusal::NoOrder),
+        Entry::NoOrder => {
+            Plan::of(sheet, book).answer == Err(Refusal::NoOrder) && begins_none(sheet)
+        }
         Entry::Cell(set, value) => Plan::of(sheet, book).cells.get(usize::from(set))
             == Some(&value),
+        Entry::Place(tasks, t, answer) => match laid(sheet, tasks) {
+            Some(mut row) => row.place(t) == answer,
+            None => false,
+        },
+        Entry::Finish(tasks, order, weight) => finishes(sheet, book, tasks, order, weight),
+        Entry::Tally(tasks, placed, expected, maximum, total) => match laid(sheet, tasks) {
+            Some(row) => {
+                row.tally(book)
+                    == Tally {
+                        placed: TaskSet::from(placed),
+                        load: Load {
+                            expected: Expected::from(expected),
+                            maximum: Maximum::from(maximum),
+                        },
+                        total,
+                    }
+            }
+            None => false,
+        },
     }
 }
 

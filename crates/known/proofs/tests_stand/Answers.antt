@@ -1,5 +1,6 @@
 use Rattle.known.proofs.Deciding.{standing}
 use Rattle.known.proofs.Plans.{deciding}
+use Rattle.known.proofs.Rows.{deciding as deciding-rows}
 use Rattle.sheet.proofs.Rules.{sound-of}
 use Rattle.sheet.specs.Sheets.{table}
 use Rattle.known.proofs.tests_stand.Goals as goal
@@ -9,4 +10,5 @@ returns c =
     record {
       sheets = standing (table c.args.sheet.now) (sound-of c.args.sheet.now);
       plans = deciding (table c.args.sheet.now) (sound-of c.args.sheet.now);
+      rows = deciding-rows (table c.args.sheet.now) (sound-of c.args.sheet.now);
     }
