@@ -1,5 +1,6 @@
 // Makes a sheet and its worth book as two groups do in a week, and prints each call's answer, each task with its margin, its
-// earliest end and what it is worth then, whether the sheet fits, which tasks are the tightest and the keenest, and the plan.
+// earliest end and what it is worth then, whether the sheet fits, which tasks are the tightest and the keenest, the plan, and a
+// row that is laid by hand: what each move answered, and what the finished row weighs.
 #![tactic(auto)]
 
 ghost use Rattle.std.specs.Fmt.{padded};
@@ -8,9 +9,10 @@ ghost use Rattle.std.specs.Prelude.{Some, codes};
 
 use book::{Book, StandardBook, keenest};
 use common::{Expected, MOST, Margin, Maximum, Refusal};
-use sheet::{Kind, Sheet, Task};
+use row::{OpenRow, Tally};
+use sheet::{Kind, Load, Sheet, Task};
 use std::{fmt, io};
-use week::{BUS_GROUP, Group, NAMES, RF_GROUP, SOONER};
+use week::{BUS_GROUP, BY_HAND, Group, Move, NAMES, RF_GROUP, SOONER};
 
 mod week;
 
@@ -41,16 +43,21 @@ fn worth(book: &StandardBook, t: u8, kind: Kind, at: Expected) -> OrDash<u32> {
     OrDash(matches!(kind, Kind::Soft).then(|| book.worth(t, at)))
 }
 
+fn print_refusal(rt: &impl Print, refusal: Refusal) -> io::Result<()> {
+    println!(rt; "refused with {}, {refusal}", refusal.number())
+}
+
 // A call and its answer; a new task answers its number.
 fn print_answer(
     rt: &impl Print,
     call: &impl fmt::Display,
     answer: Result<Option<u8>, Refusal>,
 ) -> io::Result<()> {
+    print!(rt; "  {call}: ")?;
     match answer {
-        Ok(Some(t)) => println!(rt; "  {call}: {t}, {}", name(t)),
-        Ok(None) => println!(rt; "  {call}: accepted"),
-        Err(refusal) => println!(rt; "  {call}: refused with {}, {refusal}", refusal.number()),
+        Ok(Some(t)) => println!(rt; "{t}, {}", name(t)),
+        Ok(None) => println!(rt; "accepted"),
+        Err(refusal) => print_refusal(rt, refusal),
     }
 }
 
@@ -116,18 +123,14 @@ fn print_sheet(rt: &impl Print, sheet: &Sheet, book: &StandardBook) -> io::Resul
     print_choice(rt, "Keenest", keenest(sheet, book))
 }
 
-// The best order, each task with its expected and its maximum completion, its deadline, and what it is worth then; or why there
-// is none.
-fn print_plan(rt: &impl Print, sheet: &Sheet, book: &StandardBook) -> io::Result<()> {
-    let mut cells = [0; 1 << NAMES.len()];
-    let mut order = [0; NAMES.len()];
-    let total = match plan::plan(sheet, book, &mut cells, &mut order) {
-        Ok(total) => total,
-        Err(refusal) => {
-            return println!(rt; "No plan: refused with {}, {refusal}", refusal.number());
-        }
-    };
-    println!(rt; "Plan  name            expected  maximum deadline    worth")?;
+// The sheet's tasks, which stand in the first places of the order: each with its expected and its maximum completion, its
+// deadline, and what it is worth then.
+fn print_order(
+    rt: &impl Print,
+    sheet: &Sheet,
+    book: &StandardBook,
+    order: &[u8],
+) -> io::Result<()> {
     let mut expected = Expected::from(0);
     let mut maximum = Maximum::from(0);
     for &t in order.iter().take(usize::from(sheet.count())) {
@@ -144,7 +147,81 @@ fn print_plan(rt: &impl Print, sheet: &Sheet, book: &StandardBook) -> io::Result
             expected.0, maximum.0
         )?;
     }
-    println!(rt; "Total: {total}")
+    Ok(())
+}
+
+// The best order and its total, which it answers; or why there is none.
+fn print_plan(rt: &impl Print, sheet: &Sheet, book: &StandardBook) -> io::Result<Option<u32>> {
+    let mut cells = [0; 1 << NAMES.len()];
+    let mut order = [0; NAMES.len()];
+    let total = match plan::plan(sheet, book, &mut cells, &mut order) {
+        Ok(total) => total,
+        Err(refusal) => {
+            print!(rt; "No plan: ")?;
+            print_refusal(rt, refusal)?;
+            return Ok(None);
+        }
+    };
+    println!(rt; "Plan  name            expected  maximum deadline    worth")?;
+    print_order(rt, sheet, book, &order)?;
+    println!(rt; "Total: {total}")?;
+    Ok(Some(total))
+}
+
+fn print_place(rt: &impl Print, row: &mut OpenRow, t: u8) -> io::Result<()> {
+    print!(rt; "  place {t}, {}: ", name(t))?;
+    match row.place(t) {
+        Ok(()) => println!(rt; "accepted"),
+        Err(refusal) => print_refusal(rt, refusal),
+    }
+}
+
+// The figures of the row with task t behind it; or the number with which placing the task would be refused.
+fn print_trial(rt: &impl Print, row: &OpenRow, book: &StandardBook, t: u8) -> io::Result<()> {
+    print!(rt; "  try {t}, {}: ", name(t))?;
+    let mut tally = row.tally(book);
+    let trial = row.trial(book, &mut tally, t);
+    if trial.refusal() > 0 {
+        return println!(rt; "refused with {}", trial.refusal());
+    }
+    let Tally {
+        placed: _,
+        load: Load { expected, maximum },
+        total,
+    } = trial.tally();
+    println!(rt;
+        "expected {}, maximum {}, total {total}",
+        expected.0, maximum.0
+    )
+}
+
+// The moves by hand, and the finished row with its weight beside the plan's total; or why no row begins.
+fn print_row(
+    rt: &impl Print,
+    sheet: &Sheet,
+    book: &StandardBook,
+    total: Option<u32>,
+) -> io::Result<()> {
+    let (mut row, begun) = row::begin(sheet);
+    if let Err(refusal) = begun {
+        print!(rt; "No row: ")?;
+        return print_refusal(rt, refusal);
+    }
+    println!(rt; "By hand")?;
+    for &step in BY_HAND {
+        match step {
+            Move::Place(t) => print_place(rt, &mut row, t)?,
+            Move::Try(t) => print_trial(rt, &row, book, t)?,
+        }
+    }
+    let full = row.finish();
+    println!(rt; "Row   name            expected  maximum deadline    worth")?;
+    print_order(rt, sheet, book, full.order())?;
+    println!(rt;
+        "Weighs: {}, where the plan totals {}",
+        full.weigh(book),
+        OrDash(total)
+    )
 }
 
 fn run(rt: &impl Print) -> io::Result<()> {
@@ -154,9 +231,11 @@ fn run(rt: &impl Print) -> io::Result<()> {
         print_group(rt, &mut sheet, &mut book, group)?;
     }
     print_sheet(rt, &sheet, &book)?;
-    print_plan(rt, &sheet, &book)?;
+    let total = print_plan(rt, &sheet, &book)?;
+    print_row(rt, &sheet, &book, total)?;
     print_group(rt, &mut sheet, &mut book, &SOONER)?;
-    print_plan(rt, &sheet, &book)
+    let total = print_plan(rt, &sheet, &book)?;
+    print_row(rt, &sheet, &book, total)
 }
 
 fn main(rt: HostRuntime) -> io::Result<()> {

@@ -1,4 +1,5 @@
-// One sheet's week: what the RF group, the bus group, and the RF group again call on the sheet and on its book.
+// One sheet's week: what the RF group, the bus group, and the RF group again call on the sheet and on its book, and the moves of a
+// row that is laid by hand.
 use book::Call::{Ramp, Step, Weight};
 use sheet::Call::{Cut, Hard, Link, Soft, Task};
 
@@ -51,6 +52,28 @@ pub const BUS_GROUP: Group = Group {
         Weight(5, 2),
     ],
 };
+
+#[derive(Clone, Copy)]
+pub enum Move {
+    Place(u8),
+    Try(u8),
+}
+
+// Unblanking must end in time, so neither the panel nor the reply may be placed before it. Behind it both may, and the row takes
+// the panel, where the reply would earn more.
+pub const BY_HAND: &[Move] = &[
+    Move::Place(3),
+    Move::Place(0),
+    Move::Place(0),
+    Move::Place(4),
+    Move::Place(9),
+    Move::Place(1),
+    Move::Place(2),
+    Move::Place(5),
+    Move::Place(3),
+    Move::Try(5),
+    Move::Place(4),
+];
 
 // The output is to be back sooner, by a little more than is left of its deadline.
 pub const SOONER: Group = Group {

@@ -8,8 +8,13 @@ ghost use Rattle.sample.specs.Flat.{flat, flat-sound};
 use book::{Book, Sum, TOP};
 use common::{Expected, MOST};
 
+mod hand;
 #[cfg(test)]
 mod tests;
+mod trials;
+
+pub use hand::by_hand;
+pub use trials::{choices, gain, reaches, total_or_refusal, total_with};
 
 // Every task is worth the same up to a time, and then nothing.
 #[derive(Clone, Copy, Debug)]

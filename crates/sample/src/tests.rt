@@ -1,7 +1,8 @@
-use crate::{FlatBook, beside};
+use crate::{FlatBook, beside, by_hand, choices, gain, reaches, total_or_refusal, total_with};
 use book::{Book, StandardBook, Sum, Weighted, keenest, last_worth};
 use common::{Expected, Refusal};
 use plan::plan;
+use row::begin;
 use sheet::Sheet;
 
 #[test]
@@ -127,4 +128,126 @@ fn sixteen_tasks_take_all_cells(rt: HostRuntime) {
     let total = plan(&sheet, &FlatBook::new(1000000, 15), &mut cells, &mut order);
     assert_eq!(rt; total, Ok(15000000));
     assert!(rt; order == [1, 2, 3, 4, 5, 6, 7, 8, 9, 10, 11, 12, 13, 14, 15, 0]);
+}
+
+#[test]
+fn a_trial_leaves_the_tally_whichever_way_it_ends(rt: HostRuntime) {
+    let book = FlatBook::new(7, 7);
+    let (mut row, begun) = begin(&three(7).unwrap_or(Sheet::new()));
+    assert!(rt; begun.is_ok());
+    let before = row.tally(&book);
+    let mut tally = before;
+    assert!(rt; total_with(&row, &book, &mut tally, 2) == 7 && tally == before);
+    assert!(rt; reaches(&row, &book, &mut tally, 2, 7) && tally == before);
+    assert!(rt; !reaches(&row, &book, &mut tally, 2, 8) && tally == before);
+    assert_eq!(rt; total_or_refusal(&row, &book, &mut tally, 2), Ok(7));
+    assert!(rt; gain(&row, &book, &mut tally, 2) == 7 && tally == before);
+    assert!(rt; choices(&row, &book, &mut tally).index() == 0b111 && tally == before);
+    assert!(rt; tally == before && before.total == 0);
+    assert!(rt; row.place(1).is_ok());
+    let trial = row.trial(&book, &mut tally, 2);
+    assert!(rt; trial.refusal() == 0 && trial.tally().total == 7);
+    trial.end();
+    assert!(rt; tally == before);
+}
+
+#[test]
+fn a_refused_trial_shows_the_tally_as_it_was(rt: HostRuntime) {
+    let book = FlatBook::new(7, 7);
+    let (mut row, begun) = begin(&three(6).unwrap_or(Sheet::new()));
+    assert!(rt; begun.is_ok() && row.place(0).is_ok());
+    let before = row.tally(&book);
+    let mut tally = before;
+    for (t, number) in [(3, 1), (255, 1), (0, 15), (2, 17)] {
+        let trial = row.trial(&book, &mut tally, t);
+        assert!(rt; trial.refusal() == number && trial.tally() == before);
+    }
+    assert!(rt; tally == before);
+    assert_eq!(rt; total_or_refusal(&row, &book, &mut tally, 2), Err(17));
+    assert!(rt; gain(&row, &book, &mut tally, 2) == 0 && !reaches(&row, &book, &mut tally, 2, 0));
+    assert!(rt; total_with(&row, &book, &mut tally, 2) == 0 && tally == before);
+    assert!(rt; choices(&row, &book, &mut tally).index() == 0b010 && tally == before);
+}
+
+#[test]
+fn the_row_beside_ten_takes_no_task(rt: HostRuntime) {
+    let (mut row, begun) = begin(&three(4).unwrap_or(Sheet::new()));
+    assert_eq!(rt; begun, Err(Refusal::NoOrder));
+    for t in 0..=255 {
+        assert_eq!(rt; row.place(t), Err(Refusal::UnknownTask));
+    }
+    let full = row.finish();
+    assert!(rt; full.order().is_empty());
+    assert!(rt; full.weigh(&FlatBook::new(7, 7)) == 0 && full.weigh(&StandardBook::new()) == 0);
+}
+
+#[test]
+fn a_row_weighs_by_a_new_kind(rt: HostRuntime) {
+    let (mut row, begun) = begin(&three(6).unwrap_or(Sheet::new()));
+    assert!(rt; begun.is_ok() && row.place(1).is_ok());
+    let full = row.finish();
+    assert!(rt; full.order() == [1, 0, 2].as_slice());
+    assert!(rt; full.weigh(&FlatBook::new(7, 7)) == 0 && full.weigh(&FlatBook::new(9, 8)) == 9);
+}
+
+#[test]
+fn a_plan_laid_by_hand_weighs_its_total(rt: HostRuntime) {
+    let book = FlatBook::new(7, 7);
+    let mut cells = [0; 8];
+    let mut order = [9; 4];
+    let laid = by_hand(
+        &three(6).unwrap_or(Sheet::new()),
+        &book,
+        &mut cells,
+        &mut order,
+    );
+    assert_eq!(rt; laid, Ok(7));
+    assert!(rt; order == [1, 2, 0, 9]);
+    let none = by_hand(
+        &three(4).unwrap_or(Sheet::new()),
+        &book,
+        &mut cells,
+        &mut order,
+    );
+    assert_eq!(rt; none, Err(Refusal::NoOrder));
+    let short = by_hand(
+        &three(6).unwrap_or(Sheet::new()),
+        &book,
+        &mut cells[0..7],
+        &mut order,
+    );
+    assert_eq!(rt; short, Err(Refusal::Memory));
+}
+
+#[test]
+fn sixteen_tasks_are_laid_and_weighed(rt: HostRuntime) {
+    let mut sheet = Sheet::new();
+    for t in 0..16 {
+        assert!(rt; sheet.task(1, 1).is_ok() && sheet.soft(t).is_ok());
+    }
+    assert!(rt; sheet.link(15, 0).is_ok());
+    let (mut row, begun) = begin(&sheet);
+    assert!(rt; begun.is_ok());
+    for t in 1..16 {
+        assert_eq!(rt; row.place(0), Err(Refusal::NotReady));
+        assert!(rt; row.place(t).is_ok());
+    }
+    assert!(rt; row.place(0).is_ok());
+    assert_eq!(rt; row.place(16), Err(Refusal::UnknownTask));
+    assert!(rt; row.order() == [1, 2, 3, 4, 5, 6, 7, 8, 9, 10, 11, 12, 13, 14, 15, 0].as_slice());
+    let full = row.finish();
+    assert!(rt; full.order() == [1, 2, 3, 4, 5, 6, 7, 8, 9, 10, 11, 12, 13, 14, 15, 0].as_slice());
+    assert!(rt; full.weigh(&FlatBook::new(1000000, 15)) == 15000000);
+}
+
+#[test]
+fn a_row_keeps_the_sheet_on_which_it_began(rt: HostRuntime) {
+    let mut sheet = three(6).unwrap_or(Sheet::new());
+    let (mut row, begun) = begin(&sheet);
+    assert!(rt; begun.is_ok());
+    assert!(rt; sheet.task(3, 3).is_ok() && sheet.link(2, 1).is_ok() && sheet.plain(1).is_ok());
+    assert_eq!(rt; row.place(3), Err(Refusal::UnknownTask));
+    assert_eq!(rt; row.place(2), Err(Refusal::NoOrderSo));
+    assert!(rt; row.place(1).is_ok());
+    assert!(rt; row.finish().order() == [1, 0, 2].as_slice());
 }
