@@ -50,8 +50,13 @@ fn equal_books_are_equal_values(rt: HostRuntime) {
     assert!(rt; book == before);
 }
 
-// A task of one tick, one of five that must end by the deadline, and a soft one of two.
-fn three(deadline: u32) -> Result<Sheet, Refusal> {
+// A task of one tick, one of five that must end by the deadline, and a soft one of two. Were a call refused, it would be a sheet
+// without tasks, with which no test passes.
+fn three(deadline: u32) -> Sheet {
+    make_three(deadline).unwrap_or(Sheet::new())
+}
+
+fn make_three(deadline: u32) -> Result<Sheet, Refusal> {
     let mut sheet = Sheet::new();
     for ticks in [1, 5, 2] {
         sheet.task(ticks, ticks)?;
@@ -61,9 +66,24 @@ fn three(deadline: u32) -> Result<Sheet, Refusal> {
     Ok(sheet)
 }
 
+// Sixteen soft tasks of one tick, the last of which stands before the first.
+fn sixteen() -> Sheet {
+    make_sixteen().unwrap_or(Sheet::new())
+}
+
+fn make_sixteen() -> Result<Sheet, Refusal> {
+    let mut sheet = Sheet::new();
+    for t in 0..16 {
+        sheet.task(1, 1)?;
+        sheet.soft(t)?;
+    }
+    sheet.link(15, 0)?;
+    Ok(sheet)
+}
+
 #[test]
 fn a_new_kind_is_planned(rt: HostRuntime) {
-    let sheet = three(6).unwrap_or(Sheet::new());
+    let sheet = three(6);
     let mut cells = [0; 8];
     let mut order = [0; 3];
     let in_time = plan(&sheet, &FlatBook::new(7, 7), &mut cells, &mut order);
@@ -76,7 +96,7 @@ fn a_new_kind_is_planned(rt: HostRuntime) {
 
 #[test]
 fn a_cell_or_a_byte_too_few_is_refused_and_nothing_written(rt: HostRuntime) {
-    let sheet = three(4).unwrap_or(Sheet::new());
+    let sheet = three(4);
     let mut cells = [5; 7];
     let mut order = [9; 3];
     let few_cells = plan(&sheet, &FlatBook::new(7, 7), &mut cells, &mut order);
@@ -94,22 +114,12 @@ fn what_is_behind_the_last_cell_and_task_stays(rt: HostRuntime) {
     let book = FlatBook::new(7, 7);
     let mut cells = [5; 10];
     let mut order = [9; 5];
-    let none = plan(
-        &three(4).unwrap_or(Sheet::new()),
-        &book,
-        &mut cells,
-        &mut order,
-    );
+    let none = plan(&three(4), &book, &mut cells, &mut order);
     assert_eq!(rt; none, Err(Refusal::NoOrder));
     assert!(rt;
         order == [9; 5] && cells[0] == 0 && cells[7] == 1 && cells[8] == 5 && cells[9] == 5
     );
-    let some = plan(
-        &three(6).unwrap_or(Sheet::new()),
-        &book,
-        &mut cells,
-        &mut order,
-    );
+    let some = plan(&three(6), &book, &mut cells, &mut order);
     assert_eq!(rt; some, Ok(7));
     assert!(rt;
         order == [1, 2, 0, 9, 9] && cells[0] == 8 && cells[7] == 1 && cells[8] == 5 && cells[9] == 5
@@ -118,14 +128,14 @@ fn what_is_behind_the_last_cell_and_task_stays(rt: HostRuntime) {
 
 #[test]
 fn sixteen_tasks_take_all_cells(rt: HostRuntime) {
-    let mut sheet = Sheet::new();
-    for t in 0..16 {
-        assert!(rt; sheet.task(1, 1).is_ok() && sheet.soft(t).is_ok());
-    }
-    assert!(rt; sheet.link(15, 0).is_ok());
     let mut cells = [0; 65536];
     let mut order = [0; 16];
-    let total = plan(&sheet, &FlatBook::new(1000000, 15), &mut cells, &mut order);
+    let total = plan(
+        &sixteen(),
+        &FlatBook::new(1000000, 15),
+        &mut cells,
+        &mut order,
+    );
     assert_eq!(rt; total, Ok(15000000));
     assert!(rt; order == [1, 2, 3, 4, 5, 6, 7, 8, 9, 10, 11, 12, 13, 14, 15, 0]);
 }
@@ -133,7 +143,7 @@ fn sixteen_tasks_take_all_cells(rt: HostRuntime) {
 #[test]
 fn a_trial_leaves_the_tally_whichever_way_it_ends(rt: HostRuntime) {
     let book = FlatBook::new(7, 7);
-    let (mut row, begun) = begin(&three(7).unwrap_or(Sheet::new()));
+    let (mut row, begun) = begin(&three(7));
     assert!(rt; begun.is_ok());
     let before = row.tally(&book);
     let mut tally = before;
@@ -154,7 +164,7 @@ fn a_trial_leaves_the_tally_whichever_way_it_ends(rt: HostRuntime) {
 #[test]
 fn a_refused_trial_shows_the_tally_as_it_was(rt: HostRuntime) {
     let book = FlatBook::new(7, 7);
-    let (mut row, begun) = begin(&three(6).unwrap_or(Sheet::new()));
+    let (mut row, begun) = begin(&three(6));
     assert!(rt; begun.is_ok() && row.place(0).is_ok());
     let before = row.tally(&book);
     let mut tally = before;
@@ -171,7 +181,7 @@ fn a_refused_trial_shows_the_tally_as_it_was(rt: HostRuntime) {
 
 #[test]
 fn the_row_beside_ten_takes_no_task(rt: HostRuntime) {
-    let (mut row, begun) = begin(&three(4).unwrap_or(Sheet::new()));
+    let (mut row, begun) = begin(&three(4));
     assert_eq!(rt; begun, Err(Refusal::NoOrder));
     for t in 0..=255 {
         assert_eq!(rt; row.place(t), Err(Refusal::UnknownTask));
@@ -183,7 +193,7 @@ fn the_row_beside_ten_takes_no_task(rt: HostRuntime) {
 
 #[test]
 fn a_row_weighs_by_a_new_kind(rt: HostRuntime) {
-    let (mut row, begun) = begin(&three(6).unwrap_or(Sheet::new()));
+    let (mut row, begun) = begin(&three(6));
     assert!(rt; begun.is_ok() && row.place(1).is_ok());
     let full = row.finish();
     assert!(rt; full.order() == [1, 0, 2].as_slice());
@@ -195,38 +205,18 @@ fn a_plan_laid_by_hand_weighs_its_total(rt: HostRuntime) {
     let book = FlatBook::new(7, 7);
     let mut cells = [0; 8];
     let mut order = [9; 4];
-    let laid = by_hand(
-        &three(6).unwrap_or(Sheet::new()),
-        &book,
-        &mut cells,
-        &mut order,
-    );
+    let laid = by_hand(&three(6), &book, &mut cells, &mut order);
     assert_eq!(rt; laid, Ok(7));
     assert!(rt; order == [1, 2, 0, 9]);
-    let none = by_hand(
-        &three(4).unwrap_or(Sheet::new()),
-        &book,
-        &mut cells,
-        &mut order,
-    );
+    let none = by_hand(&three(4), &book, &mut cells, &mut order);
     assert_eq!(rt; none, Err(Refusal::NoOrder));
-    let short = by_hand(
-        &three(6).unwrap_or(Sheet::new()),
-        &book,
-        &mut cells[0..7],
-        &mut order,
-    );
+    let short = by_hand(&three(6), &book, &mut cells[0..7], &mut order);
     assert_eq!(rt; short, Err(Refusal::Memory));
 }
 
 #[test]
 fn sixteen_tasks_are_laid_and_weighed(rt: HostRuntime) {
-    let mut sheet = Sheet::new();
-    for t in 0..16 {
-        assert!(rt; sheet.task(1, 1).is_ok() && sheet.soft(t).is_ok());
-    }
-    assert!(rt; sheet.link(15, 0).is_ok());
-    let (mut row, begun) = begin(&sheet);
+    let (mut row, begun) = begin(&sixteen());
     assert!(rt; begun.is_ok());
     for t in 1..16 {
         assert_eq!(rt; row.place(0), Err(Refusal::NotReady));
@@ -242,7 +232,7 @@ fn sixteen_tasks_are_laid_and_weighed(rt: HostRuntime) {
 
 #[test]
 fn a_row_keeps_the_sheet_on_which_it_began(rt: HostRuntime) {
-    let mut sheet = three(6).unwrap_or(Sheet::new());
+    let mut sheet = three(6);
     let (mut row, begun) = begin(&sheet);
     assert!(rt; begun.is_ok());
     assert!(rt; sheet.task(3, 3).is_ok() && sheet.link(2, 1).is_ok() && sheet.plain(1).is_ok());
