@@ -1,5 +1,5 @@
 -- Steps as the code reads and writes them. Assumes nothing.
-use Rattle.std.proofs.Common.{◌≡◌, sym, ap, ap₂, ◌∙◌, true, cond, ◌&&◌, List, [], ◌∷◌, ◌++◌, ℕ, suc, ◌-◌, ◌≤◌, ◌<◌, max, arith, leb, length, get_or, set, slice_get, map}
+use Rattle.std.proofs.Common.{◌≡◌, refl, sym, ap, ap₂, ◌∙◌, true, cond, ◌&&◌, List, [], ◌∷◌, ◌++◌, ℕ, zero, suc, ◌-◌, ◌≤◌, ◌<◌, max, arith, leb, length, get_or, set, slice_get, map}
 use Rattle.std.specs.Option.{option_map_or}
 use Rattle.std.proofs.lemmas.Grind.{common_steps}
 use Rattle.std.proofs.lemmas.List.{get_or-map, length-map, map-set}
@@ -74,3 +74,15 @@ module _ (x : StepBook) (all : List (List Step)) (t : ℕ) where
       let e = ap (λ ys. step_meaning ys task at) a.leaves in
       let more = steps-more (steps_of (steps_in x) t) (a_step until worth) at fits in
       grind (arith, common_steps)
+
+-- ---- the steps of each task
+
+-- what holds of no steps and of a task's own steps holds of those of every number
+pub of_each : (P : List Step → Type 0) → P [] → ((own : Steps) → P (used own)) → (all : List Steps) (k : ℕ) → P (steps_of (map used all) k)
+of_each P none each [] k = none
+of_each P none each (own ∷ all) zero = each own
+of_each P none each (own ∷ all) (suc k) = of_each P none each all k
+
+pub steps_kept : (all : List Steps) (k : ℕ) → stepped (steps_of (map used all) k) ≡ true
+unfolding stepped
+steps_kept = of_each (λ ss. stepped ss ≡ true) refl (λ own. own.sound)

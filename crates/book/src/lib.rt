@@ -17,6 +17,6 @@ pub use call::Call;
 pub use keenness::keenest;
 pub use laws::{equal_books, kind_stands, last_worth, layers_stand, others_stay, widest_product};
 pub use layers::{Sum, Weighted};
-pub use ramp::RampBook;
+pub use ramp::{Ramp, RampBook};
 pub use standard::StandardBook;
-pub use step::StepBook;
+pub use step::{Step, StepBook};

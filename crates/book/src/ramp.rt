@@ -13,9 +13,9 @@ use common::{Exact, Expected, Refusal};
 // Worth the peak up to the knee, then in proportion to what is left to the foot, and nothing from the foot on.
 #[derive(Clone, Copy, Debug, PartialEq, Eq)]
 pub struct Ramp {
-    peak: u32,
-    knee: u32,
-    foot: u32,
+    pub peak: u32,
+    pub knee: u32,
+    pub foot: u32,
 }
 
 // At most one ramp for each task. The rule of ramps is the book's: with it in `Ramp`, a definition could not write down the
@@ -55,6 +55,14 @@ impl RampBook {
         ensures { ramps_in result ≡ no_ramps }
     {
         RampBook { ramps: [None; 16] }
+    }
+
+    // The ramp of the task, if it has one.
+    pub fn ramp_of(&self, t: u8) -> Option<Ramp>
+        ensures value { result ≡ ramp_of (ramps_in self.now) t }
+        ensures kept { keeps_rule result ≡ true }
+    {
+        self.ramps.get(usize::from(t)).copied().flatten()
     }
 
     // Gives the task a ramp, in place of the one that it may have.

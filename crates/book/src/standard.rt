@@ -1,9 +1,11 @@
 // The standard book: ramps and steps added, and then weighed.
-ghost use Rattle.std.specs.Prelude.{◌≡◌};
+ghost use Rattle.std.specs.Prelude.{◌≡◌, ◌≤◌, true};
 ghost use Rattle.book.specs.Standard.{Called, contents, drop_steps, nothing, ramp, step, weight, worth_of};
 ghost use Rattle.book.specs.Lists.{weights_in};
 ghost use Rattle.book.specs.RampLaws.{ramps-sound};
 ghost use Rattle.book.specs.StepLaws.{steps-sound};
+ghost use Rattle.book.specs.Ramps.{keeps_rule, ramp_of};
+ghost use Rattle.book.specs.Steps.{stepped, steps_of};
 ghost use Rattle.book.specs.Weights.{weight_of};
 ghost use Rattle.book.specs.WorthLaws.{added-sound, weighed-sound};
 ghost use Rattle.common.specs.Refusals.{outcome};
@@ -11,8 +13,8 @@ ghost use Rattle.common.specs.Refusals.{outcome};
 use crate::book::Book;
 use crate::call::Call;
 use crate::layers::{Sum, Weighted};
-use crate::ramp::RampBook;
-use crate::step::StepBook;
+use crate::ramp::{Ramp, RampBook};
+use crate::step::{Step, StepBook};
 use common::{Expected, Refusal};
 
 // Equal books are equal values.
@@ -33,6 +35,30 @@ impl StandardBook {
         StandardBook {
             layers: Weighted::over(curves),
         }
+    }
+
+    // The ramp of the task, if it has one.
+    pub fn ramp_of(&self, t: u8) -> Option<Ramp>
+        ensures value { result ≡ ramp_of (contents self.now).ramps t }
+        ensures kept { keeps_rule result ≡ true }
+    {
+        self.layers.inner.first.ramp_of(t)
+    }
+
+    // The steps of the task, by their times.
+    pub fn steps_of(&self, t: u8) -> &[Step]
+        ensures value { result.now ≡ steps_of (contents self.now).steps t }
+        ensures kept { stepped result.now ≡ true }
+    {
+        self.layers.inner.second.steps_of(t)
+    }
+
+    // The weight of the task; 1 for a number above 15.
+    pub fn weight_of(&self, t: u8) -> u32
+        ensures value { result ≡ weight_of (contents self.now).weights t }
+        ensures light { result ≤ 16 }
+    {
+        self.layers.weights.of(t)
     }
 
     // Gives the task a ramp, in place of the one that it may have.

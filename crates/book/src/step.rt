@@ -3,7 +3,7 @@ ghost use Rattle.std.specs.Prelude.{◌≡◌, true, [], ◌∷◌, ◌++◌, �
 ghost use Rattle.std.specs.Cmp.Rules.{comparing};
 ghost use Rattle.std.proofs.Common.{rules};
 ghost use Rattle.book.specs.Steps.{Dropped, Stepped, blank, drop_rows, no_steps};
-ghost use Rattle.book.specs.Steps.{step_added, step_meaning, step_rows, stepped, steps_dropped, steps_worth};
+ghost use Rattle.book.specs.Steps.{step_added, step_meaning, step_rows, stepped, steps_dropped, steps_of, steps_worth};
 ghost use Rattle.common.specs.Refusals.{Answered, outcome};
 
 use crate::book::{Book, LATEST, TOP};
@@ -15,8 +15,8 @@ const MOST_STEPS: u8 = 6;
 // Up to a time, a worth.
 #[derive(Clone, Copy, Debug, PartialEq, Eq)]
 pub struct Step {
-    until: u32,
-    worth: u32,
+    pub until: u32,
+    pub worth: u32,
 }
 
 // At most six steps: the first `len` places hold them, and the others are blank. Each step reaches further than the one before,
@@ -109,6 +109,14 @@ impl StepBook {
         StepBook {
             steps: [Steps::new(); 16],
         }
+    }
+
+    // The steps of the task, by their times.
+    pub fn steps_of(&self, t: u8) -> &[Step]
+        ensures value { result.now ≡ steps_of (steps_in self.now) t }
+        ensures kept { stepped result.now ≡ true }
+    {
+        self.steps.get(usize::from(t)).map_or(&[], |own| own.used())
     }
 
     // Adds a step behind the last one of the task.

@@ -7,7 +7,7 @@
 --     Answered rs new old left n    what every call on a sheet or a book promises that may be refused
 use Rattle.std.specs.Prelude.{Bool, true, List, [], ◌∷◌, ◌≡◌, ℕ, ◌≤◌, ◌<◌, Result, Ok, Err, if◌then◌else◌, ◌==◌, IsTrue, All, Contains}
 use Rattle.common.specs.declared.refusal.Refusal.{Refusal}
-use Rattle.common.specs.declared.refusal.Refusal.TheVariants.{UnknownTask, SheetFull, Durations, Circle, NoLink, DeadlineRange, OtherKind, BookRule, StepsFull, NoOrder, Memory, Placed, NotReady, NoOrderSo}
+use Rattle.common.specs.declared.refusal.Refusal.TheVariants.{UnknownTask, SheetFull, Durations, Circle, NoLink, DeadlineRange, OtherKind, BookRule, StepsFull, NoOrder, NotALine, BadSum, BadFrame, Memory, Placed, NotReady, NoOrderSo}
 
 abbrev pub number : Refusal → ℕ
 number UnknownTask = 1
@@ -20,6 +20,9 @@ number OtherKind = 7
 number BookRule = 8
 number StepsFull = 9
 number NoOrder = 10
+number NotALine = 11
+number BadSum = 12
+number BadFrame = 13
 number Memory = 14
 number Placed = 15
 number NotReady = 16

@@ -31,7 +31,13 @@ pub enum Refusal {
     StepsFull = 9,
     // No order is lawful.
     NoOrder = 10,
-    // The memory lent to a plan is too short. It comes before all others.
+    // The bytes are not a line of a sheet file.
+    NotALine = 11,
+    // The bytes of the line's frame don't add up to 0 modulo 256.
+    BadSum = 12,
+    // The frame is of no known kind, or has not the length of its kind.
+    BadFrame = 13,
+    // The memory lent is too short. Of a plan it comes before all others.
     Memory = 14,
     // The task is in the row.
     Placed = 15,
@@ -68,6 +74,9 @@ impl fmt::Display for Refusal {
             Refusal::BookRule => "the ramp, the step or the weight breaks its rule",
             Refusal::StepsFull => "six steps are there",
             Refusal::NoOrder => "no order is lawful",
+            Refusal::NotALine => "the bytes are not a line",
+            Refusal::BadSum => "the bytes of the frame don't add up to 0 modulo 256",
+            Refusal::BadFrame => "the frame is of no known kind, or of a wrong length",
             Refusal::Memory => "the memory is too short",
             Refusal::Placed => "the task is placed already",
             Refusal::NotReady => "a direct predecessor is not placed",
