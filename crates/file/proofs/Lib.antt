@@ -1,0 +1,10 @@
+pub mod Again
+pub mod Bytes
+pub mod Coding
+pub mod Cutting
+pub mod Found
+pub mod Lengths
+pub mod Notes
+pub mod Places
+pub mod Sayings
+pub mod Writes

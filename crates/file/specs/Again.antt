@@ -1,0 +1,31 @@
+-- What is written is read again, and can be read in no other way. Assumes nothing.
+--     OneReading        a line is made of one frame and one note at most
+--     DecodedBack       the bytes of a frame that fits are decoded to that frame
+--     DecodedOnly       and no others that add up to 0 modulo 256 are
+--     ReadBack          the line of a frame and a note is read as that frame and that note
+--     SavedReads t b    what is saved of a table and a book's contents is cut into lines, each of which is read as its frame
+use Rattle.std.specs.Prelude.{List, ◌≡◌, ℕ, ◌%◌, ◌<◌, All, IfSome, Option, Some, None, Ok, map, sum}
+use Rattle.book.specs.Standard.{Contents}
+use Rattle.file.specs.Frames.{Fits, Frame, decoded, encoded}
+use Rattle.file.specs.Lines.{IsLine, Prints, line_of, pieces}
+use Rattle.file.specs.Readings.{reading}
+use Rattle.file.specs.Saved.{frames, saved}
+use Rattle.sheet.specs.Tables.{Table}
+
+abbrev pub OneReading : Type 0
+OneReading =
+    (line f g : List ℕ) (m n : Option (List ℕ)) → IsLine line f m → IsLine line g n → (f ≡ g) × (m ≡ n)
+
+abbrev pub DecodedBack : Type 0
+DecodedBack = (f : Frame) → Fits f → decoded (encoded f) ≡ Some f
+
+abbrev pub DecodedOnly : Type 0
+DecodedOnly =
+    (bytes : List ℕ) (f : Frame) → All (λ b. b < 256) bytes → sum bytes % 256 ≡ 0 → decoded bytes ≡ Some f → Fits f × (encoded f ≡ bytes)
+
+abbrev pub ReadBack : Type 0
+ReadBack =
+    (f : Frame) (note_is : Option (List ℕ)) → Fits f → IfSome note_is (All Prints) → reading (line_of (encoded f) note_is) ≡ Ok (record { frame = f; note = note_is })
+
+abbrev pub SavedReads : Table → Contents → Type 0
+SavedReads t b = map reading (pieces (saved t b)) ≡ map (λ f. Ok (record { frame = f; note = None })) (frames t b)
