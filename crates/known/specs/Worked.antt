@@ -1,9 +1,9 @@
--- Entries about a sheet and a standard book, each with its answer. Assumes nothing.
+-- Entries about a sheet, a standard book and sheet files, each with its answer. Assumes nothing.
 --     right t b e         the entry e, on the table t and the contents b of the book, has the answer that it must have
 --     next t e            the table after it, also where a call is refused
 --     next_book b e       the contents of the book after it
 --     all_right t b es    each of the entries es has it, one after another from t and b
-use Rattle.std.specs.Prelude.{◌≡◌, ℕ, ◌*◌, Bool, true, false, not, ◌&&◌, List, [], ◌∷◌, pos, Some, None, Decides, Option, ◌==◌, int_lt, is_none, length, nat_le, nat_lt, option_map, sum_by}
+use Rattle.std.specs.Prelude.{◌≡◌, ℕ, ◌*◌, Bool, true, false, not, ◌&&◌, List, [], ◌∷◌, pos, Some, None, Decides, Option, ◌==◌, bytes_eq, int_lt, is_none, length, nat_le, nat_lt, option_map, sum_by}
 use Rattle.std.specs.Bool.{beq}
 use Rattle.std.specs.Option.{option_eq}
 use Rattle.std.specs.Ordering.{int_eq}
@@ -18,7 +18,11 @@ use Rattle.common.specs.Sets.{any}
 use Rattle.sheet.specs.Tables.{Table, expected_of, task_of}
 use Rattle.common.specs.declared.ticks.Margin.{Margin}
 use Rattle.known.specs.declared.entry.Entry.{Entry}
-use Rattle.known.specs.declared.entry.Entry.TheVariants.{New, OnSheet, OnBook, Linked, Expected, Above, Margin as MarginIs, Fits, Tightest, Worth, Keenest, Best, NoOrder, Cell, Place, Finish, Tally}
+use Rattle.known.specs.declared.entry.Entry.TheVariants.{New, OnSheet, OnBook, Linked, Expected, Above, Margin as MarginIs, Fits, Tightest, Worth, Keenest, Best, NoOrder, Cell, Place, Finish, Tally, Saved, Frames, Refused, Note, Names}
+use Rattle.file.specs.Lines.{pieces}
+use Rattle.file.specs.Readings.{note_now, reading}
+use Rattle.file.specs.Saved.{saved}
+use Rattle.known.specs.Files.{all_names, all_read, all_refused, is_noted}
 use Rattle.known.specs.Plans.{is_best, is_cell, none_lawful}
 use Rattle.known.specs.Rows.{is_first, is_judged, leads}
 use Rattle.plan.specs.Orders.{expected, maximum}
@@ -80,6 +84,11 @@ right t b (Place row k answer) = leads t row.now && is_judged t row.now k (outco
 right t b (Finish row o v) = is_first t row.now o.now && total (worth_of b) t o.now == v
 right t b (Tally row s e m v) =
     leads t row.now && (set_of row.now == s && (sum_by (expected t) row.now == e && (sum_by (maximum t) row.now == m && total (worth_of b) t row.now == v)))
+right t b (Saved text) = bytes_eq (saved t b) text.now
+right t b (Frames file fs) = all_read (pieces file.now) fs.now
+right t b (Refused file e) = all_refused (pieces file.now) e
+right t b (Note line answer) = is_noted (note_now answer) (reading line.now)
+right t b (Names file names answer) = bytes_eq (all_names file.now names.now) answer.now
 
 abbrev pub next : Table → Entry → Table
 next t New = []

@@ -1,5 +1,6 @@
-// A call or a question on a sheet and a standard book, with the answer that it must have.
+// A call or a question on a sheet and a standard book, or a question on sheet files, with the answer that it must have.
 use common::Refusal;
+use file::Frame;
 
 #[derive(Clone, Copy, Debug)]
 pub enum Entry {
@@ -34,4 +35,14 @@ pub enum Entry {
     // Where these tasks are placed in turn, the tally: their set by its number, how long they are expected to take and take at
     // most, and their total.
     Tally(&'static [u8], u16, u32, u32, u32),
+    // The text that is saved.
+    Saved(&'static [u8]),
+    // The lines of the file are read as these frames.
+    Frames(&'static [u8], &'static [Frame]),
+    // Each line of the file is refused so.
+    Refused(&'static [u8], Refusal),
+    // The line is read, and has this note.
+    Note(&'static [u8], Option<&'static [u8]>),
+    // By a sheet file and a names file, the names of the tasks in turn, each with 0A behind it; no further number has one.
+    Names(&'static [u8], &'static [u8], &'static [u8]),
 }

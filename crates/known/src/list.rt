@@ -2,7 +2,7 @@
 // long an array in a body.
 use crate::entry::Entry::{
     self, Above, Best, Cell, Expected, Finish, Fits, Keenest, Linked, Margin, New, NoOrder, OnBook,
-    OnSheet, Place, Tally, Tightest, Worth,
+    OnSheet, Place, Saved, Tally, Tightest, Worth,
 };
 use book::Call::{DropSteps, Ramp, Step, Weight};
 use common::Refusal::{
@@ -11,7 +11,7 @@ use common::Refusal::{
 };
 use sheet::Call::{Cut, Hard, Link, Plain, Soft, Task, Time};
 
-pub const WORKED: [Entry; 232] = [
+pub const WORKED: [Entry; 234] = [
     // A sheet without tasks has one order, the empty one.
     New,
     Best(&[], 0),
@@ -76,6 +76,9 @@ pub const WORKED: [Entry; 232] = [
     Finish(&[0], &[0, 1, 2], 8),
     Tally(&[0], 1, 1, 1, 0),
     Tally(&[0, 1], 3, 6, 6, 0),
+    Saved(
+        b"0100010001FD\n0100050005F5\n0100020002FB\n0301000006F6\n040200000C00000700000ADD\n0502F9\n",
+    ),
     // A circle is refused until it is cut; a link that is there is accepted.
     New,
     OnSheet(Task(1, 1), Ok(())),
@@ -171,6 +174,11 @@ pub const WORKED: [Entry; 232] = [
     Finish(&[0, 2], &[0, 2, 3, 1, 4], 17),
     Tally(&[0, 1, 3], 11, 16, 25, 17),
     Tally(&[0, 3, 1], 11, 16, 25, 11),
+    Saved(
+        b"0100010007F7\n010002000AF3\n010002000AF3\n0100040008F3\n0100010003FB\n\
+        020001FD\n020002FC\n020003FB\n020104F9\n020204F8\n020304F7\n030300001EDC\n\
+        040100001200000900001BC5\n040200000C000015000018C1\n0501FA\n0502F9\n",
+    ),
     OnBook(Ramp(1, 12, 9, 27), Ok(())),
     Keenest(Some(1)),
     // A smaller worth over fewer ticks: 7 over 2 against 30 over 10.

@@ -1,8 +1,9 @@
-// The worked sheets, books, plans and rows, run through the code.
+// The worked sheets, books, plans, rows and sheet files, run through the code.
 use crate::entry::Entry;
-use crate::worked;
+use crate::{worked, worked_files};
 use book::{Book, StandardBook, keenest};
 use common::{Expected, Margin, Maximum, Refusal, TaskSet};
+use file::Frame;
 use row::{OpenRow, Tally};
 use sheet::{Load, Sheet};
 
@@ -52,6 +53,65 @@ fn finishes(sheet: &Sheet, book: &StandardBook, tasks: &[u8], order: &[u8], weig
 fn begins_none(sheet: &Sheet) -> bool {
     let (row, begun) = row::begin(sheet);
     begun == Err(Refusal::NoOrder) && row.order().is_empty() && row.sheet().count() == 0
+}
+
+// What stands in memory that is lent to saving.
+const MARK: u8 = b'x';
+
+const LF: u8 = 0x0a;
+
+// What saving answers in so much memory, and what it leaves there.
+fn saved(
+    sheet: &Sheet,
+    book: &StandardBook,
+    room: usize,
+) -> (Option<Result<usize, Refusal>>, [u8; 256]) {
+    let mut memory = [MARK; 256];
+    let answer = memory
+        .get_mut(..room)
+        .map(|lent| file::save(sheet, book, lent));
+    (answer, memory)
+}
+
+// Whether the text is saved, in as much memory as it takes and in more, of which the rest stays as it was; and in less, saving is
+// refused and writes nothing.
+fn saves(sheet: &Sheet, book: &StandardBook, text: &[u8]) -> bool {
+    let len = text.len();
+    let fits = [len, len + 3].iter().all(|room| {
+        let (answer, memory) = saved(sheet, book, *room);
+        answer == Some(Ok(len))
+            && memory.starts_with(text)
+            && memory.iter().skip(len).all(|byte| *byte == MARK)
+    });
+    let (answer, memory) = saved(sheet, book, len.saturating_sub(1));
+    fits && (len == 0
+        || answer == Some(Err(Refusal::Memory)) && memory.iter().all(|byte| *byte == MARK))
+}
+
+// Whether the lines of the file are read as these frames.
+fn reads(file: &[u8], frames: &[Frame]) -> bool {
+    let mut frames = frames.iter();
+    let mut lines = file.split_inclusive(|byte| *byte == LF);
+    lines.all(|line| match (file::read(line), frames.next()) {
+        (Ok(said), Some(frame)) => said.frame == *frame,
+        _ => false,
+    }) && frames.next().is_none()
+}
+
+// Whether each line of the file is refused so.
+fn refuses(file: &[u8], refusal: Refusal) -> bool {
+    file.split_inclusive(|byte| *byte == LF)
+        .all(|line| file::read(line) == Err(refusal))
+}
+
+// Whether these are the names of the tasks, each with 0A behind it, and no further number has one.
+fn names(file: &[u8], names: &[u8], answers: &[u8]) -> bool {
+    let mut answers = answers.split_inclusive(|byte| *byte == LF);
+    (0..=u8::MAX).all(|t| match answers.next() {
+        Some([name @ .., LF]) => file::name(file, names, t) == Ok(name),
+        Some(_) => false,
+        None => file::name(file, names, t) == Err(Refusal::UnknownTask),
+    })
 }
 
 // Makes the call or asks the question, and says whether it has its answer. Entries are data, not closures: the definitions read
@@ -106,6 +166,11 @@ fn right(sheet: &mut Sheet, book: &mut StandardBook, entry: Entry) -> bool {
             }
             None => false,
         },
+        Entry::Saved(text) => saves(sheet, book, text),
+        Entry::Frames(file, frames) => reads(file, frames),
+        Entry::Refused(file, refusal) => refuses(file, refusal),
+        Entry::Note(line, note) => file::read(line).is_ok_and(|said| said.note == note),
+        Entry::Names(file, names_file, answers) => names(file, names_file, answers),
     }
 }
 
@@ -114,6 +179,15 @@ fn the_worked_sheets_and_books(rt: HostRuntime) {
     let mut sheet = Sheet::new();
     let mut book = StandardBook::new();
     for entry in worked() {
+        assert!(rt; right(&mut sheet, &mut book, entry));
+    }
+}
+
+#[test]
+fn the_worked_sheet_files(rt: HostRuntime) {
+    let mut sheet = Sheet::new();
+    let mut book = StandardBook::new();
+    for entry in worked_files() {
         assert!(rt; right(&mut sheet, &mut book, entry));
     }
 }

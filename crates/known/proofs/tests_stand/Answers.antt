@@ -1,4 +1,5 @@
 use Rattle.known.proofs.Deciding.{standing}
+use Rattle.known.proofs.Lines.{deciding as deciding-files}
 use Rattle.known.proofs.Plans.{deciding}
 use Rattle.known.proofs.Rows.{deciding as deciding-rows}
 use Rattle.sheet.proofs.Rules.{sound-of}
@@ -11,4 +12,5 @@ returns c =
       sheets = standing (table c.args.sheet.now) (sound-of c.args.sheet.now);
       plans = deciding (table c.args.sheet.now) (sound-of c.args.sheet.now);
       rows = deciding-rows (table c.args.sheet.now) (sound-of c.args.sheet.now);
+      files = deciding-files;
     }

@@ -1,6 +1,7 @@
 use Rattle.std.proofs.Common.{refl}
 use Rattle.book.specs.Ramps.{slope}
 use Rattle.book.specs.Steps.{stepped}
+use Rattle.file.specs.Saved.{each, text_of}
 use Rattle.sheet.specs.Links.{linked, via, reaches, up}
 use Rattle.sheet.specs.Margins.{needed, demand}
 use Rattle.common.specs.Sets.{has}
@@ -8,5 +9,5 @@ use Rattle.sheet.specs.Tables.{expected_of, maximum_of}
 use Rattle.known.proofs.worked.Goals as goal
 
 pub returns : goal.returns
-unfolding has linked via reaches up expected_of maximum_of needed demand slope stepped
+unfolding has linked via reaches up expected_of maximum_of needed demand slope stepped each text_of
 returns c = refl
