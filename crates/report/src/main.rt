@@ -1,6 +1,7 @@
 // Makes a sheet and its worth book as two groups do in a week, and prints each call's answer, each task with its margin, its
-// earliest end and what it is worth then, whether the sheet fits, which tasks are the tightest and the keenest, the plan, and a
-// row that is laid by hand: what each move answered, and what the finished row weighs.
+// earliest end and what it is worth then, whether the sheet fits, which tasks are the tightest and the keenest, the text that the
+// sheet and the book are saved as, the plan, and a row that is laid by hand: what each move answered, and what the finished row
+// weighs.
 #![tactic(auto)]
 
 ghost use Rattle.std.specs.Fmt.{padded};
@@ -9,6 +10,7 @@ ghost use Rattle.std.specs.Prelude.{Some, codes};
 
 use book::{Book, StandardBook, keenest};
 use common::{Expected, MOST, Margin, Maximum, Refusal};
+use file::{ROOM, save};
 use row::{OpenRow, Tally};
 use sheet::{Kind, Load, Sheet, Task};
 use std::{fmt, io};
@@ -123,6 +125,21 @@ fn print_sheet(rt: &impl Print, sheet: &Sheet, book: &StandardBook) -> io::Resul
     print_choice(rt, "Keenest", keenest(sheet, book))
 }
 
+// The text that the sheet and its book are saved as, or why there is no room for it.
+fn print_file(rt: &impl Print, sheet: &Sheet, book: &StandardBook) -> io::Result<()> {
+    let mut text = [0; ROOM];
+    match save(sheet, book, &mut text) {
+        Ok(len) => {
+            println!(rt; "The sheet's file, {len} bytes:")?;
+            rt.write_all(&text[..len])
+        }
+        Err(refusal) => {
+            print!(rt; "No file: ")?;
+            print_refusal(rt, refusal)
+        }
+    }
+}
+
 // The sheet's tasks, which stand in the first places of the order: each with its expected and its maximum completion, its
 // deadline, and what it is worth then.
 fn print_order(
@@ -231,6 +248,7 @@ fn run(rt: &impl Print) -> io::Result<()> {
         print_group(rt, &mut sheet, &mut book, group)?;
     }
     print_sheet(rt, &sheet, &book)?;
+    print_file(rt, &sheet, &book)?;
     let total = print_plan(rt, &sheet, &book)?;
     print_row(rt, &sheet, &book, total)?;
     print_group(rt, &mut sheet, &mut book, &SOONER)?;

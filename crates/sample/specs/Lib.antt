@@ -1,2 +1,3 @@
 pub mod Flat
+pub mod Lines
 pub mod Trials

@@ -8,12 +8,16 @@ ghost use Rattle.sample.specs.Flat.{flat, flat-sound};
 use book::{Book, Sum, TOP};
 use common::{Expected, MOST};
 
+#[cfg(test)]
+mod file_tests;
 mod hand;
+mod lines;
 #[cfg(test)]
 mod tests;
 mod trials;
 
 pub use hand::by_hand;
+pub use lines::hard_task;
 pub use trials::{choices, gain, reaches, total_or_refusal, total_with};
 
 // Every task is worth the same up to a time, and then nothing.
