@@ -25,7 +25,7 @@ DecodedOnly =
 
 abbrev pub ReadBack : Type 0
 ReadBack =
-    (f : Frame) (note_is : Option (List ℕ)) → Fits f → IfSome note_is (All Prints) → reading (line_of (encoded f) note_is) ≡ Ok (record { frame = f; note = note_is })
+    (f : Frame) (note : Option (List ℕ)) → Fits f → IfSome note (All Prints) → reading (line_of (encoded f) note) ≡ Ok (record { frame = f; note = note })
 
 abbrev pub SavedReads : Table → Contents → Type 0
 SavedReads t b = map reading (pieces (saved t b)) ≡ map (λ f. Ok (record { frame = f; note = None })) (frames t b)

@@ -17,8 +17,8 @@ pub record Reading : Type 0 where
   pub note : Option (List ℕ)
 
 abbrev pub of_frame : Option (List ℕ) → Option Frame → Result Reading Refusal
-of_frame note_is None = Err BadFrame
-of_frame note_is (Some f) = Ok (record { frame = f; note = note_is })
+of_frame n None = Err BadFrame
+of_frame n (Some f) = Ok (record { frame = f; note = n })
 
 abbrev pub of_parts : Option Parts → Result Reading Refusal
 of_parts None = Err NotALine

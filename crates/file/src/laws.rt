@@ -6,6 +6,7 @@ ghost use Rattle.file.specs.Names.{NamesLie};
 ghost use Rattle.file.specs.Saved.{saved};
 ghost use Rattle.sheet.specs.Sheets.{table};
 
+use crate::saving::ROOM;
 use book::StandardBook;
 use sheet::Sheet;
 
@@ -21,7 +22,7 @@ pub fn lines_stand()
 // What is saved is read again, line by line, and is no longer than `ROOM`.
 pub fn saved_reads(sheet: &Sheet, book: &StandardBook)
     ensures reads { SavedReads (table sheet.now) (contents book.now) }
-    ensures short { length (saved (table sheet.now) (contents book.now)) ≤ 5200 }
+    ensures short { length (saved (table sheet.now) (contents book.now)) ≤ ROOM }
 {}
 
 // The bytes of a name stand in the sheet file or in the names file.
