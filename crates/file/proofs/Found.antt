@@ -9,6 +9,7 @@ use Rattle.std.proofs.Math.Seq.{drop-append_seam, take-append_seam}
 use native.Mathlib.Numerals.{one-add}
 use Rattle.std.specs.List.{list_all, prefix_len, AllByRecursion}
 use Rattle.file.proofs.Bytes.{length-bytes_of}
+use Rattle.file.proofs.Writes.{length-pairs}
 use Rattle.file.proofs.Notes.{and_both, note_in-note_bytes, noted_in}
 use Rattle.file.specs.Lines.{IsLine, Parts, Prints, bytes_of, digit, is_digit, note_bytes, pairs, parts, prints, value}
 
@@ -35,10 +36,6 @@ bytes_of-pairs (b ∷ bs) small =
     let low = value_digit (b % 16) (omega arith) in
     let all : 16 * (b / 16) + b % 16 ≡ b = omega arith in
     rw (high, low, all, bytes_of-pairs bs small.1) refl
-
-length-pairs : (bs : List ℕ) → length (pairs bs) ≡ 2 * length bs
-length-pairs [] = refl
-length-pairs (b ∷ bs) = let e = length-pairs bs in omega (arith, e)
 
 prefix_len-pairs : (bs rest : List ℕ) → AllByRecursion (λ b. b < 256) bs → prefix_len is_digit rest ≡ 0 → prefix_len is_digit (pairs bs ++ rest) ≡ length (pairs bs)
 prefix_len-pairs [] rest small none = none

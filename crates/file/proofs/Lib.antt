@@ -1,10 +1,16 @@
 pub mod Again
 pub mod Bytes
 pub mod Coding
+pub mod CurvesGo
 pub mod Cutting
 pub mod Found
+pub mod Going
 pub mod Lengths
+pub mod Loads
 pub mod Notes
 pub mod Places
+pub mod Reloads
 pub mod Sayings
+pub mod Stopping
+pub mod TasksGo
 pub mod Writes

@@ -1,12 +1,12 @@
 -- Text laid into memory, a piece after another. Assumes nothing.
-use Rattle.std.proofs.Common.{◌≡◌, refl, sym, ap, ◌∙◌, List, [], ◌∷◌, ◌++◌, ℕ, suc, ◌+◌, ◌-◌, ◌/◌, ◌%◌, ◌^◌, ◌<◌, ◌≤◌, add-one, arith, drop, length, set, ⊎_elim}
+use Rattle.std.proofs.Common.{◌≡◌, refl, sym, ap, ◌∙◌, List, [], ◌∷◌, ◌++◌, ℕ, suc, ◌+◌, ◌-◌, ◌*◌, ◌/◌, ◌%◌, ◌^◌, ◌<◌, ◌≤◌, add-one, arith, drop, length, set, ⊎_elim}
 use Rattle.std.proofs.lemmas.Bool.{cases_lt}
 use Rattle.std.proofs.lemmas.List.{append-nil, length-append, length-set, set_past}
 use Rattle.std.proofs.lemmas.List.Concat.{flat_map-append}
-use Rattle.file.specs.Frames.{Frame, closing, frame_line}
+use Rattle.file.specs.Frames.{Frame, bytes_line, closed, closing, frame_line}
 use Rattle.file.specs.Lines.{digit, pairs}
 use Rattle.file.specs.Saved.{each, text_of}
-use Rattle.file.specs.Writing.{Wrote, bytes_line, over}
+use Rattle.file.specs.Writing.{Wrote, over}
 use Rattle.file.specs.declared.writer.Writer.{Writer}
 
 -- ---- over
@@ -72,6 +72,19 @@ pairs-append (b ∷ xs) ys = ap (λ ps. digit (b / 16) ∷ digit (b % 16) ∷ ps
 
 pub line-closes : (bytes : List ℕ) → bytes_line bytes ≡ (pairs bytes ++ pairs (closing bytes ∷ [])) ++ 10 ∷ []
 line-closes bytes = simp (append-nil, pairs-append)
+
+pub length-pairs : (bytes : List ℕ) → length (pairs bytes) ≡ 2 * length bytes
+length-pairs [] = refl
+length-pairs (b ∷ bytes) = omega (arith, length-pairs bytes)
+
+pub length-line : (bytes : List ℕ) → length (bytes_line bytes) ≡ 2 * length bytes + 3
+length-line bytes =
+    omega (
+      arith,
+      length-append (pairs (closed bytes)) (10 ∷ []),
+      length-pairs (closed bytes),
+      length-append bytes (closing bytes ∷ []),
+    )
 
 -- ---- frames
 

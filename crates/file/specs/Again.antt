@@ -4,13 +4,18 @@
 --     DecodedOnly       and no others that add up to 0 modulo 256 are
 --     ReadBack          the line of a frame and a note is read as that frame and that note
 --     SavedReads t b    what is saved of a table and a book's contents is cut into lines, each of which is read as its frame
+--     SavedLoads s b    what is saved of a sheet and a book is loaded as what they hold
 use Rattle.std.specs.Prelude.{List, ◌≡◌, ℕ, ◌%◌, ◌<◌, All, IfSome, Option, Some, None, Ok, map, sum}
-use Rattle.book.specs.Standard.{Contents}
+use Rattle.book.specs.Standard.{Contents, contents}
+use Rattle.book.specs.declared.standard.StandardBook.{StandardBook}
 use Rattle.file.specs.Frames.{Fits, Frame, decoded, encoded}
 use Rattle.file.specs.Lines.{IsLine, Prints, line_of, pieces}
+use Rattle.file.specs.Loads.{loaded, made}
 use Rattle.file.specs.Readings.{reading}
 use Rattle.file.specs.Saved.{frames, saved}
+use Rattle.sheet.specs.Sheets.{table}
 use Rattle.sheet.specs.Tables.{Table}
+use Rattle.sheet.specs.declared.sheet.Sheet.{Sheet}
 
 abbrev pub OneReading : Type 0
 OneReading =
@@ -29,3 +34,6 @@ ReadBack =
 
 abbrev pub SavedReads : Table → Contents → Type 0
 SavedReads t b = map reading (pieces (saved t b)) ≡ map (λ f. Ok (record { frame = f; note = None })) (frames t b)
+
+abbrev pub SavedLoads : Sheet → StandardBook → Type 0
+SavedLoads s b = loaded (saved (table s) (contents b)) ≡ Ok (made s b)

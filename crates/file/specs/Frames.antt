@@ -1,6 +1,7 @@
 -- Frames: what each kind holds, and its bytes. Assumes nothing.
 --     body f           the bytes of a frame but the last: its kind, and its fields, the high byte of a number first
 --     closing bytes    the byte that makes the sum of all a multiple of 256
+--     bytes_line bs    the line of the bytes bs and the closing one
 --     encoded f        the bytes of a frame
 --     frame_line f     its line, without a note
 --     Fits f           each field of the frame fits its bytes
@@ -34,11 +35,14 @@ closing bytes = (256 - sum bytes % 256) % 256
 abbrev pub closed : List ℕ → List ℕ
 closed bytes = bytes ++ closing bytes ∷ []
 
+abbrev pub bytes_line : List ℕ → List ℕ
+bytes_line bs = line_of (closed bs) None
+
 abbrev pub encoded : Frame → List ℕ
 encoded f = closed (body f)
 
 abbrev pub frame_line : Frame → List ℕ
-frame_line f = line_of (encoded f) None
+frame_line f = bytes_line (body f)
 
 abbrev pub Fits : Frame → Type 0
 Fits (task min max) = (min < 2 ^ 16) × (max < 2 ^ 16)

@@ -1,7 +1,11 @@
 pub mod Again
+pub mod Faults
 pub mod Frames
 pub mod Lines
+pub mod Loads
 pub mod Names
 pub mod Readings
 pub mod Saved
+pub mod Stopping
+pub mod Texts
 pub mod Writing

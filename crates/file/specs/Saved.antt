@@ -4,13 +4,17 @@
 --                     steps by time; only the weights above 1
 --     text_of fs      the lines of frames
 --     saved t b       the text that is saved
-use Rattle.std.specs.Prelude.{List, [], ◌∷◌, ◌++◌, Bool, ℕ, zero, suc, Option, Some, None, if◌then◌else◌, length, map, nat_lt}
+--     Written text out out' r    what writing a text to the front of the memory answers and leaves: its length, where there is
+--                     room for it, and behind it what was there; else 14, and then nothing is written
+use Rattle.std.specs.Prelude.{List, [], ◌∷◌, ◌++◌, ◌≡◌, Bool, ℕ, zero, suc, ◌<◌, ◌≤◌, Option, Some, None, Result, Ok, Err, drop, if◌then◌else◌, length, map, nat_lt}
 use Rattle.std.specs.List.{flat_map}
 use Rattle.book.specs.Ramps.{ramp_of}
 use Rattle.book.specs.Standard.{Contents}
 use Rattle.book.specs.Steps.{steps_of}
 use Rattle.book.specs.Weights.{weight_of}
 use Rattle.book.specs.declared.step.Step.{Step}
+use Rattle.common.specs.Refusals.{number}
+use Rattle.common.specs.declared.refusal.Refusal.{Refusal}
 use Rattle.file.specs.Frames.{Frame, frame_line, task, link, hard, ramp, soft, step, weight}
 use Rattle.sheet.specs.Links.{linked}
 use Rattle.sheet.specs.Margins.{deadline_of}
@@ -69,3 +73,7 @@ text_of fs = flat_map frame_line fs
 
 abbrev pub saved : Table → Contents → List ℕ
 saved t b = text_of (frames t b)
+
+abbrev pub Written : (text out out' : List ℕ) → Result ℕ Refusal → Type 0
+Written text out out' (Ok len) = (len ≡ length text) × (len ≤ length out) × (out' ≡ text ++ drop len out)
+Written text out out' (Err e) = (number e ≡ 14) × (length out < length text) × (out' ≡ out)

@@ -1,10 +1,7 @@
 -- How text is laid into memory. Only inner functions promise it. Assumes nothing.
 --     over xs at text    xs with the text laid over it from place `at` on, as far as xs reaches
 --     Wrote w text x     the writer w has become x by writing the text, to the same memory; the count stops at the largest number
---     bytes_line bytes   the line of a frame of which all but the closing byte are these
-use Rattle.std.specs.Prelude.{List, [], ◌∷◌, ◌≡◌, ℕ, None, suc, ◌+◌, ◌-◌, ◌^◌, length, min, set}
-use Rattle.file.specs.Frames.{closed}
-use Rattle.file.specs.Lines.{line_of}
+use Rattle.std.specs.Prelude.{List, [], ◌∷◌, ◌≡◌, ℕ, suc, ◌+◌, ◌-◌, ◌^◌, length, min, set}
 use Rattle.file.specs.declared.writer.Writer.{Writer}
 
 unfoldable pub over : (xs : List ℕ) (at : ℕ) (text : List ℕ) → List ℕ
@@ -15,6 +12,3 @@ pub record Wrote (w : Writer) (text : List ℕ) (x : Writer) : Type 0 where
   pub same : x.out.ghost_name ≡ w.out.ghost_name
   pub laid : x.out.now ≡ over w.out.now w.len text
   pub counted : min x.len (2 ^ 64 - 1) ≡ min (w.len + length text) (2 ^ 64 - 1)
-
-abbrev pub bytes_line : List ℕ → List ℕ
-bytes_line bytes = line_of (closed bytes) None

@@ -1,11 +1,10 @@
 // Saving a sheet and a book.
 #![tactic(auto, unfolding(crate::specs::Saved::each, crate::specs::Saved::text_of, crate::specs::Writing::over))]
 
-ghost use Rattle.std.specs.Prelude.{◌≡◌, ◌++◌, ◌≤◌, ◌<◌, MatchResult, drop, length};
+ghost use Rattle.std.specs.Prelude.{◌≡◌, length};
 ghost use Rattle.book.specs.Standard.{contents};
-ghost use Rattle.common.specs.Refusals.{number};
 ghost use Rattle.file.specs.Saved.{each, hard_frame, links_from, ramp_frame, saved, soft_frame, step_frames, task_frame, text_of};
-ghost use Rattle.file.specs.Saved.{weight_frame};
+ghost use Rattle.file.specs.Saved.{Written, weight_frame};
 ghost use Rattle.file.specs.Writing.{Wrote, over};
 ghost use Rattle.sheet.specs.Sheets.{table};
 
@@ -151,9 +150,7 @@ fn write(sheet: &Sheet, book: &StandardBook, out: &mut [u8]) -> usize
 // Writes the text of the sheet and the book, and answers its length; nothing behind it is written. Where there is no room for all
 // of it, nothing is.
 pub fn save(sheet: &Sheet, book: &StandardBook, out: &mut [u8]) -> Result<usize, Refusal>
-    ensures { let text = saved (table sheet.now) (contents book.now) in MatchResult result
-        (λ len. (len ≡ length text) × (len ≤ length out.old) × (out.new ≡ text ++ drop len out.old))
-        (λ e. (number e ≡ 14) × (length out.old < length text) × (out.new ≡ out.old)) }
+    ensures { Written (saved (table sheet.now) (contents book.now)) out.old out.new result }
 {
     let len = write(sheet, book, &mut []);
     if out.len() < len {

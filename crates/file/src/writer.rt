@@ -1,12 +1,13 @@
 // Text as it is written.
 ghost use Rattle.std.specs.Prelude.{◌≡◌, ◌∷◌, [], ◌/◌, ◌%◌, ◌<◌};
-ghost use Rattle.file.specs.Frames.{closing};
+ghost use Rattle.file.specs.Frames.{bytes_line, closing};
 ghost use Rattle.file.specs.Lines.{digit};
-ghost use Rattle.file.specs.Saved.{text_of};
-ghost use Rattle.file.specs.Writing.{Wrote, bytes_line};
+ghost use Rattle.file.specs.Saved.{Written, text_of};
+ghost use Rattle.file.specs.Writing.{Wrote, over};
 
 use crate::frame::{Frame, kind, three};
 use crate::line::LF;
+use common::Refusal;
 
 // What there is room for is laid down from the front of `out`, and all of it is counted.
 #[derive(Drop)]
@@ -107,4 +108,26 @@ impl<'a> Writer<'a> {
             Frame::Weight { t, weight } => self.line(&[kind::WEIGHT, t, weight]),
         }
     }
+}
+
+// Lays the line down, as far as there is room for it.
+fn lay_line(bytes: &[u8], out: &mut [u8])
+    ensures { out.new ≡ over out.old 0 (bytes_line bytes.now) }
+{
+    let mut writer = Writer::new(out);
+    writer.line(bytes);
+}
+
+// Writes the line of these bytes and the closing one, and answers its length; nothing behind it is written. Where there is no room
+// for all of it, nothing is.
+pub fn write_line(bytes: &[u8], out: &mut [u8]) -> Result<usize, Refusal>
+    ensures { Written (bytes_line bytes.now) out.old out.new result }
+{
+    // Each byte and the closing one have two digits, and 0A ends the line.
+    let len = bytes.len().saturating_mul(2).saturating_add(3);
+    if out.len() < len {
+        return Err(Refusal::Memory);
+    }
+    lay_line(bytes, out);
+    Ok(len)
 }
