@@ -1,7 +1,7 @@
 use crate::hard_task;
 use book::StandardBook;
 use common::Refusal;
-use file::{Frame, read, save};
+use file::{Frame, read, reloaded, save};
 use sheet::Sheet;
 use std::array;
 
@@ -80,6 +80,12 @@ fn each_line_of_a_text_is_read_and_its_last_digit_counts(rt: HostRuntime) {
         }
         assert_eq!(rt; read(line), Err(Refusal::BadSum));
     }
+}
+
+#[test]
+fn what_is_saved_is_loaded_again(rt: HostRuntime) {
+    let (sheet, book) = full();
+    assert!(rt; sheet.count() == 16 && reloaded(&sheet, &book) == Some((sheet, book)));
 }
 
 #[test]

@@ -11,6 +11,8 @@ use common::{Expected, MOST};
 #[cfg(test)]
 mod file_tests;
 mod hand;
+#[cfg(test)]
+mod history_tests;
 mod lines;
 #[cfg(test)]
 mod tests;

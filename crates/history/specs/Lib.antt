@@ -1,0 +1,2 @@
+pub mod BestOrder
+pub mod Histories
