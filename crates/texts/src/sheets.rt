@@ -1,0 +1,130 @@
+// Texts of tasks, links and kinds.
+
+// Tasks: their durations, and how many there are.
+pub const TASKS: [(&[u8], &[u8]); 13] = [
+    // 1 <= minimum <= maximum; two bytes hold no number above 65,535.
+    (b"0100000000FF\n", b"2F03030001CA\n"),
+    (b"0100000001FE\n", b"2F03030001CA\n"),
+    (b"010000FFFF01\n", b"2F03030001CA\n"),
+    (b"0100020001FC\n", b"2F03030001CA\n"),
+    (b"01010000FFFF\n", b"2F03030001CA\n"),
+    (b"01FFFF000100\n", b"2F03030001CA\n"),
+    (
+        b"0100010001FD\n0100010001FD\n0100030002FA\n",
+        b"2F03030003C8\n",
+    ),
+    (b"0100FF0100FF\n", b"200100000000DF\n"),
+    (b"01FFFFFFFF03\n", b"200100000000DF\n"),
+    // A seventeenth task is refused, by the count where its durations are wrong too. What stands between the tasks is not
+    // counted.
+    (
+        b"0100010001FD\n0100010001FD\n0100010001FD\n0100010001FD\n0100010001FD\n0100010001FD\n0100010001FD\n0100010001FD\n\
+        0100010001FD\n0100010001FD\n0100010001FD\n0100010001FD\n0100010001FD\n0100010001FD\n0100010001FD\n0100010001FD\n\
+        0100010001FD\n",
+        b"2F03020011BB\n",
+    ),
+    (
+        b"0100010001FD\n0100010001FD\n0100010001FD\n0100010001FD\n0100010001FD\n0100010001FD\n0100010001FD\n0100010001FD\n\
+        0100010001FD\n0100010001FD\n0100010001FD\n0100010001FD\n0100010001FD\n0100010001FD\n0100010001FD\n0100010001FD\n\
+        0100000000FF\n",
+        b"2F03020011BB\n",
+    ),
+    (
+        b"0100010001FD\n0100010001FD\n0100010001FD\n0100010001FD\n0100010001FD\n0100010001FD\n0100010001FD\n0100010001FD\n\
+        020001FD\n0507F4\n0100010001FD\n0100010001FD\n0100010001FD\n0100010001FD\n0100010001FD\n0100010001FD\n\
+        0100010001FD\n0100010001FD\n0100010001FD\n",
+        b"2F03020013B9\n",
+    ),
+    (
+        b"0100010001FD\n0100010001FD\n0100010001FD\n0100010001FD\n0100010001FD\n0100010001FD\n0100010001FD\n0100010001FD\n\
+        0100010001FD\n0100010001FD\n0100010001FD\n0100010001FD\n0100010001FD\n0100010001FD\n0100010001FD\n0100000000FF\n",
+        b"2F03030010BB\n",
+    ),
+];
+
+// Links, which make no circle and stand between tasks that are there.
+pub const LINKS: [(&[u8], &[u8]); 16] = [
+    // Circles of one task, of two and of three; and one that a longer path closes.
+    (b"0100010001FD\n020000FE\n", b"2F03040002C8\n"),
+    (
+        b"0100010001FD\n0100010001FD\n020001FD\n020100FD\n",
+        b"2F03040004C6\n",
+    ),
+    (
+        b"0100010001FD\n0100010001FD\n0100010001FD\n020001FD\n020102FB\n020200FC\n",
+        b"2F03040006C4\n",
+    ),
+    (
+        b"0100010001FD\n0100010001FD\n0100010001FD\n020201FB\n020100FD\n020002FC\n",
+        b"2F03040006C4\n",
+    ),
+    (
+        b"0100010001FD\n0100010001FD\n0100010001FD\n0100010001FD\n020001FD\n020203F9\n020102FB\n020300FB\n",
+        b"2F03040008C2\n",
+    ),
+    // A link that is there is accepted; so is one beside a longer path, and a second path.
+    (
+        b"0100010001FD\n0100010001FD\n020100FD\n020100FD\n",
+        b"20020100000000DD\n",
+    ),
+    (
+        b"0100010001FD\n0100010001FD\n0100010001FD\n020201FB\n020100FD\n020200FC\n",
+        b"2003020100000000DA\n",
+    ),
+    (
+        b"0100010001FD\n0100010001FD\n0100010001FD\n0100010001FD\n020302F9\n020301FA\n020200FC\n020100FD\n",
+        b"200403010200000000D6\n",
+    ),
+    (
+        b"0100010001FD\n0100010001FD\n020001FD\n020001FD\n020100FD\n",
+        b"2F03040005C5\n",
+    ),
+    // Both tasks must be there when the line is read; that comes before the circle.
+    (b"0100010001FD\n020001FD\n", b"2F03010002CB\n"),
+    (b"0100010001FD\n020100FD\n", b"2F03010002CB\n"),
+    (b"0100010001FD\n020101FC\n", b"2F03010002CB\n"),
+    (b"0100010001FD\n020001FD\n0100010001FD\n", b"2F03010002CB\n"),
+    (b"0100010001FD\n0100010001FD\n020010EE\n", b"2F03010003CA\n"),
+    (b"0100010001FD\n0100010001FD\n02FF00FF\n", b"2F03010003CA\n"),
+    (b"020000FE\n", b"2F03010001CC\n"),
+];
+
+// Hard tasks and soft ones.
+pub const KINDS: [(&[u8], &[u8]); 20] = [
+    // The task must be there, whatever the deadline is.
+    (b"0300000005F8\n", b"2F03010001CC\n"),
+    (b"0100010001FD\n0301000005F7\n", b"2F03010002CB\n"),
+    (b"0100010001FD\n0301000000FC\n", b"2F03010002CB\n"),
+    (b"0100010001FD\n03FF000005F9\n", b"2F03010002CB\n"),
+    (b"0100010001FD\n0501FA\n", b"2F03010002CB\n"),
+    (b"0100010001FD\n0510EB\n", b"2F03010002CB\n"),
+    (b"0500FB\n", b"2F03010001CC\n"),
+    // 1 <= deadline <= 1,048,575; three bytes hold greater numbers. That comes before the other kind.
+    (b"0100010001FD\n0300000000FD\n", b"2F03060002C6\n"),
+    (b"0100010001FD\n0300000001FC\n", b"200100000000DF\n"),
+    (b"0100010001FD\n03000FFFFFF0\n", b"200100000000DF\n"),
+    (b"0100010001FD\n0300100000ED\n", b"2F03060002C6\n"),
+    (b"0100010001FD\n0300FFFFFF00\n", b"2F03060002C6\n"),
+    (b"0100010001FD\n0500FB\n0300000000FD\n", b"2F03060003C5\n"),
+    // A hard task is not made soft, nor a soft one hard.
+    (b"0100010001FD\n0500FB\n0300000005F8\n", b"2F03070003C4\n"),
+    (b"0100010001FD\n0300000005F8\n0500FB\n", b"2F03070003C4\n"),
+    (
+        b"0100010001FD\n0100010001FD\n0300000005F8\n0501FA\n0500FB\n",
+        b"2F03070005C2\n",
+    ),
+    // The same mark again is accepted. The new deadline counts: it makes room for an order, or takes it.
+    (b"0100010001FD\n0500FB\n0500FB\n", b"200100000000DF\n"),
+    (
+        b"0100050005F5\n0300000004F9\n0300000005F8\n",
+        b"200100000000DF\n",
+    ),
+    (
+        b"0100050005F5\n0300000005F8\n0300000004F9\n",
+        b"2F050A0000C2\n",
+    ),
+    (
+        b"0100050005F5\n0100010001FD\n0300000009F4\n0300000005F8\n0301000006F6\n0301000001FB\n",
+        b"2F050A0000C2\n",
+    ),
+];
