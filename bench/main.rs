@@ -5,10 +5,10 @@ use std::time::Instant;
 
 #[link(name = "planlib", kind = "static")]
 unsafe extern "C" {
-    fn step_make(calls: *const u32, calls_len: usize) -> u32;
+    fn step_make(file: *const u8, file_len: usize) -> u32;
     fn step_plan(
-        calls: *const u32,
-        calls_len: usize,
+        file: *const u8,
+        file_len: usize,
         cells: *mut u32,
         cells_len: usize,
         order: *mut u8,
@@ -16,20 +16,20 @@ unsafe extern "C" {
     ) -> u32;
 }
 
-// What both are given: calls of five numbers each, of which the first is one of these, as in the library.
-mod calls {
-    pub const TASK: u32 = 0;
-    pub const LINK: u32 = 1;
-    pub const HARD: u32 = 2;
-    pub const SOFT: u32 = 3;
-    pub const RAMP: u32 = 4;
-    pub const STEP: u32 = 5;
-    pub const WEIGHT: u32 = 6;
+// What both are given: the text of a sheet file. The first byte of a line's frame is one of these.
+mod kind {
+    pub const TASK: u8 = 1;
+    pub const LINK: u8 = 2;
+    pub const HARD: u8 = 3;
+    pub const RAMP: u8 = 4;
+    pub const SOFT: u8 = 5;
+    pub const STEP: u8 = 6;
+    pub const WEIGHT: u8 = 7;
 }
 
 // The plain Rust program.
 mod plain {
-    use super::calls;
+    use super::kind;
 
     const TOP: u32 = 1_000_000;
     const REFUSED: u32 = 0xFFFF_FF00;
@@ -189,17 +189,27 @@ mod plain {
         }
     }
 
-    // The calls of the bench keep every rule: only the library tests them.
+    // The bytes of a line, which has no note.
+    fn bytes(line: &str) -> Vec<u8> {
+        let byte = |i| u8::from_str_radix(&line[i..i + 2], 16).expect("a line is pairs of digits");
+        (0..line.len()).step_by(2).map(byte).collect()
+    }
+
+    fn three(a: u8, b: u8, c: u8) -> u32 {
+        u32::from_be_bytes([0, a, b, c])
+    }
+
+    // The files of the bench have no fault: only the library tests them.
     #[inline(never)]
-    pub fn make(calls: &[u32]) -> (Sheet, Book) {
+    pub fn make(file: &str) -> (Sheet, Book) {
         let mut sheet = Sheet { tasks: Vec::new() };
         let mut book = Book { curves: Vec::new() };
-        for call in calls.chunks_exact(5) {
-            match *call {
-                [calls::TASK, min, max, _, _] => {
+        for line in file.lines() {
+            match bytes(line)[..] {
+                [kind::TASK, a, b, c, d, _] => {
                     sheet.tasks.push(Task {
-                        min: min as u16,
-                        max: max as u16,
+                        min: u16::from_be_bytes([a, b]),
+                        max: u16::from_be_bytes([c, d]),
                         kind: Kind::Plain,
                         before: 0,
                     });
@@ -209,18 +219,27 @@ mod plain {
                         weight: 1,
                     });
                 }
-                [calls::LINK, a, b, _, _] => sheet.tasks[b as usize].before |= 1 << a,
-                [calls::HARD, t, deadline, _, _] => {
-                    sheet.tasks[t as usize].kind = Kind::Hard(deadline);
+                [kind::LINK, a, b, _] => sheet.tasks[usize::from(b)].before |= 1 << a,
+                [kind::HARD, t, a, b, c, _] => {
+                    sheet.tasks[usize::from(t)].kind = Kind::Hard(three(a, b, c));
                 }
-                [calls::SOFT, t, _, _, _] => sheet.tasks[t as usize].kind = Kind::Soft,
-                [calls::RAMP, t, peak, knee, foot] => {
-                    book.curves[t as usize].ramp = Some(Ramp { peak, knee, foot });
+                [kind::SOFT, t, _] => sheet.tasks[usize::from(t)].kind = Kind::Soft,
+                [kind::RAMP, t, a, b, c, d, e, f, g, h, i, _] => {
+                    book.curves[usize::from(t)].ramp = Some(Ramp {
+                        peak: three(a, b, c),
+                        knee: three(d, e, f),
+                        foot: three(g, h, i),
+                    });
                 }
-                [calls::STEP, t, until, worth, _] => {
-                    book.curves[t as usize].steps.push(Step { until, worth });
+                [kind::STEP, t, a, b, c, d, e, f, _] => {
+                    book.curves[usize::from(t)].steps.push(Step {
+                        until: three(a, b, c),
+                        worth: three(d, e, f),
+                    });
                 }
-                [calls::WEIGHT, t, weight, _, _] => book.curves[t as usize].weight = weight,
+                [kind::WEIGHT, t, weight, _] => {
+                    book.curves[usize::from(t)].weight = u32::from(weight);
+                }
                 _ => {}
             }
         }
@@ -228,8 +247,8 @@ mod plain {
     }
 
     #[inline(never)]
-    pub fn plan(calls: &[u32], cells: &mut [u32], order: &mut [u8]) -> u32 {
-        let (sheet, book) = make(calls);
+    pub fn plan(file: &str, cells: &mut [u32], order: &mut [u8]) -> u32 {
+        let (sheet, book) = make(file);
         match sheet.plan(&book, cells, order) {
             Ok(total) => total,
             Err(refusal) => REFUSED + refusal as u32,
@@ -251,12 +270,26 @@ impl Numbers {
     }
 }
 
-// A sheet of so many tasks and its book: of the pairs of tasks one in six is linked, every fourth task is hard with a deadline
-// that the order by number meets, every eighth is plain, and the others are soft, each with a ramp and a weight, most with steps.
-fn sample(count: u32, seed: u64) -> Vec<u32> {
+// Writes a line: the kind of its frame, the fields, each with the count of its bytes, and the byte that makes the sum of all 0
+// modulo 256.
+fn line(file: &mut String, kind: u8, fields: &[(u32, usize)]) {
+    let mut frame = vec![kind];
+    for (field, count) in fields {
+        frame.extend(&field.to_be_bytes()[4 - count..]);
+    }
+    let sum = frame.iter().fold(0_u8, |sum, byte| sum.wrapping_add(*byte));
+    frame.push(sum.wrapping_neg());
+    file.extend(frame.iter().map(|byte| format!("{byte:02X}")));
+    file.push('\n');
+}
+
+// The file of a sheet of so many tasks and its book: of the pairs of tasks one in six is linked, every fourth task is hard with a
+// deadline that the order by number meets, every eighth is plain, and the others are soft, each with a ramp and a weight, most
+// with steps.
+fn sample(count: u32, seed: u64) -> String {
     let mut numbers = Numbers(seed);
-    let mut list = Vec::new();
-    let mut call = |call: [u32; 5]| list.extend(call);
+    let mut file = String::new();
+    let mut line = |kind, fields: &[(u32, usize)]| line(&mut file, kind, fields);
     let mut end = 0;
     let mut ends = Vec::new();
     for _ in 0..count {
@@ -264,12 +297,12 @@ fn sample(count: u32, seed: u64) -> Vec<u32> {
         let max = min + numbers.between(0, 200);
         end += max;
         ends.push(end);
-        call([calls::TASK, min, max, 0, 0]);
+        line(kind::TASK, &[(min, 2), (max, 2)]);
     }
     for b in 0..count {
         for a in 0..b {
             if numbers.between(1, 6) == 1 {
-                call([calls::LINK, a, b, 0, 0]);
+                line(kind::LINK, &[(a, 1), (b, 1)]);
             }
         }
     }
@@ -277,26 +310,27 @@ fn sample(count: u32, seed: u64) -> Vec<u32> {
         match t % 8 {
             3 | 7 => {
                 let slack = numbers.between(0, end / 2);
-                call([calls::HARD, t, ends[t as usize] + slack, 0, 0]);
+                line(kind::HARD, &[(t, 1), (ends[t as usize] + slack, 3)]);
             }
             5 => {}
             _ => {
-                call([calls::SOFT, t, 0, 0, 0]);
+                line(kind::SOFT, &[(t, 1)]);
                 let knee = numbers.between(0, end / 2);
                 let foot = knee + numbers.between(1, end);
-                call([calls::RAMP, t, numbers.between(1000, 60000), knee, foot]);
+                let peak = numbers.between(1000, 60000);
+                line(kind::RAMP, &[(t, 1), (peak, 3), (knee, 3), (foot, 3)]);
                 let mut until = 0;
                 let mut worth = numbers.between(1000, 30000);
                 for _ in 0..numbers.between(0, 3) {
                     until += numbers.between(1, end / 2);
-                    call([calls::STEP, t, until, worth, 0]);
+                    line(kind::STEP, &[(t, 1), (until, 3), (worth, 3)]);
                     worth -= numbers.between(0, worth / 2);
                 }
-                call([calls::WEIGHT, t, numbers.between(1, 16), 0, 0]);
+                line(kind::WEIGHT, &[(t, 1), (numbers.between(1, 16), 1)]);
             }
         }
     }
-    list
+    file
 }
 
 struct Memory {
@@ -314,19 +348,19 @@ impl Memory {
 }
 
 #[inline(never)]
-fn make_ours(list: &[u32], _: &mut Memory) -> u32 {
-    // The library reads the list and keeps nothing of it.
-    unsafe { step_make(list.as_ptr(), list.len()) }
+fn make_ours(file: &str, _: &mut Memory) -> u32 {
+    // The library reads the file and keeps nothing of it.
+    unsafe { step_make(file.as_ptr(), file.len()) }
 }
 
 #[inline(never)]
-fn plan_ours(list: &[u32], memory: &mut Memory) -> u32 {
+fn plan_ours(file: &str, memory: &mut Memory) -> u32 {
     let Memory { cells, order } = memory;
-    // The library reads the list, writes within both buffers, and keeps nothing of them.
+    // The library reads the file, writes within both buffers, and keeps nothing of them.
     unsafe {
         step_plan(
-            list.as_ptr(),
-            list.len(),
+            file.as_ptr(),
+            file.len(),
             cells.as_mut_ptr(),
             cells.len(),
             order.as_mut_ptr(),
@@ -336,40 +370,40 @@ fn plan_ours(list: &[u32], memory: &mut Memory) -> u32 {
 }
 
 #[inline(never)]
-fn make_rust(list: &[u32], _: &mut Memory) -> u32 {
-    black_box(plain::make(list));
+fn make_rust(file: &str, _: &mut Memory) -> u32 {
+    black_box(plain::make(file));
     0
 }
 
 #[inline(never)]
-fn plan_rust(list: &[u32], memory: &mut Memory) -> u32 {
-    plain::plan(list, &mut memory.cells, &mut memory.order)
+fn plan_rust(file: &str, memory: &mut Memory) -> u32 {
+    plain::plan(file, &mut memory.cells, &mut memory.order)
 }
 
-type Run = fn(&[u32], &mut Memory) -> u32;
+type Run = fn(&str, &mut Memory) -> u32;
 
 // Runs over each of the sheets so many times.
-fn repeat(run: Run, lists: &[Vec<u32>], memory: &mut Memory, rounds: u32) {
+fn repeat(run: Run, files: &[String], memory: &mut Memory, rounds: u32) {
     for _ in 0..rounds {
-        for list in lists {
-            black_box(run(black_box(list), memory));
+        for file in files {
+            black_box(run(black_box(file), memory));
         }
     }
 }
 
 // Whether both answer the same total, order and cells.
-fn agree(list: &[u32], count: u32) -> bool {
+fn agree(file: &str, count: u32) -> bool {
     let (mut ours, mut rust) = (Memory::of(count), Memory::of(count));
-    let (total, other) = (plan_ours(list, &mut ours), plan_rust(list, &mut rust));
+    let (total, other) = (plan_ours(file, &mut ours), plan_rust(file, &mut rust));
     total == other && ours.cells == rust.cells && ours.order == rust.order
 }
 
 // The microseconds of a plan of ours and of Rust's, without those of making the sheet and the book: by turns, and the shortest
 // of each.
-fn times(lists: &[Vec<u32>], memory: &mut Memory, rounds: u32) -> [f64; 2] {
+fn times(files: &[String], memory: &mut Memory, rounds: u32) -> [f64; 2] {
     let mut took = |run: Run| {
         let start = Instant::now();
-        repeat(run, lists, memory, rounds);
+        repeat(run, files, memory, rounds);
         start.elapsed().as_secs_f64() * 1e6 / f64::from(rounds * SHEETS)
     };
     let mut least = [f64::INFINITY; 2];
@@ -386,7 +420,7 @@ fn times(lists: &[Vec<u32>], memory: &mut Memory, rounds: u32) -> [f64; 2] {
 // How many sheets of a size are measured.
 const SHEETS: u32 = 8;
 
-fn samples(count: u32) -> Vec<Vec<u32>> {
+fn samples(count: u32) -> Vec<String> {
     (0..SHEETS)
         .map(|seed| sample(count, u64::from(seed)))
         .collect()
@@ -394,10 +428,10 @@ fn samples(count: u32) -> Vec<Vec<u32>> {
 
 // Whether both answer the same on each of the sheets, and where a deadline leaves no order.
 fn check(count: u32) -> bool {
-    samples(count).into_iter().all(|mut list| {
-        let same = agree(&list, count);
-        list.extend([calls::HARD, 3, 1, 0, 0]);
-        same && (count <= 3 || agree(&list, count))
+    samples(count).into_iter().all(|mut file| {
+        let same = agree(&file, count);
+        line(&mut file, kind::HARD, &[(3, 1), (1, 3)]);
+        same && (count <= 3 || agree(&file, count))
     })
 }
 
@@ -410,7 +444,7 @@ fn main() -> ExitCode {
             .unwrap_or(0)
     };
     let (count, rounds) = (number(1), number(2));
-    let lists = samples(count);
+    let files = samples(count);
     let mut memory = Memory::of(count);
     match words.first().map(String::as_str) {
         Some("check") => {
@@ -421,12 +455,12 @@ fn main() -> ExitCode {
             println!("all answers are equal");
         }
         Some("sheets") => println!("{SHEETS}"),
-        Some("make-ours") => repeat(make_ours, &lists, &mut memory, rounds),
-        Some("make-rust") => repeat(make_rust, &lists, &mut memory, rounds),
-        Some("ours") => repeat(plan_ours, &lists, &mut memory, rounds),
-        Some("rust") => repeat(plan_rust, &lists, &mut memory, rounds),
+        Some("make-ours") => repeat(make_ours, &files, &mut memory, rounds),
+        Some("make-rust") => repeat(make_rust, &files, &mut memory, rounds),
+        Some("ours") => repeat(plan_ours, &files, &mut memory, rounds),
+        Some("rust") => repeat(plan_rust, &files, &mut memory, rounds),
         Some("time") => {
-            let [ours, rust] = times(&lists, &mut memory, rounds);
+            let [ours, rust] = times(&files, &mut memory, rounds);
             println!("{ours:.1} {rust:.1} {:.2}", ours / rust);
         }
         _ => {
