@@ -1,12 +1,11 @@
 -- Where the order lies in the bytes, and that there is room for their line. Assumes nothing.
-use Rattle.std.proofs.Common.{◌≡◌, refl, ap, sym, ◌∙◌, List, [], ◌∷◌, ◌++◌, ℕ, ◌+◌, ◌*◌, ◌≤◌, Result, Ok, Err, arith, drop, length, take, length-take-le}
+use Rattle.std.proofs.Common.{◌≡◌, refl, ap, sym, ◌∙◌, List, ◌++◌, ℕ, ◌≤◌, Result, Ok, Err, arith, drop, length, take, length-take-le}
 use Rattle.std.specs.Prelude.{IsOk}
 use Rattle.std.proofs.Math.Seq.{drop-append_seam}
-use Rattle.std.proofs.lemmas.List.{length-append, length-drop, take-append-le}
+use Rattle.std.proofs.lemmas.List.{length-drop, take-append-le}
 use Rattle.common.specs.declared.refusal.Refusal.{Refusal}
 use Rattle.file.proofs.Writes.{length-line}
-use Rattle.file.specs.Frames.{bytes_line, closed, closing}
-use Rattle.file.specs.Lines.{pairs}
+use Rattle.file.specs.Frames.{bytes_line}
 use Rattle.file.specs.Saved.{Written}
 use borrow.Rule.Slice.PartMut.{mid_of, post_of, put_mid}
 

@@ -1,3 +1,3 @@
 pub mod Bytes
-pub mod Telling
+pub mod Showing
 pub mod Totals

@@ -2,7 +2,7 @@
 --     order_bytes o v       the bytes that tell an order and its total, without the closing one
 --     fault_bytes f         those that tell a fault
 --     most                  a sheet of more tasks is not planned: 16,384 cells are enough for up to 14
---     Tells m bytes         the bytes tell the best order of what is made and its total, or why there is none
+--     Shows m bytes         the bytes show the best order of what is made and its total, or why there is none
 --     Answers file bytes    the bytes answer the file
 --     Answered ..           what writing the line of such bytes to the front of the memory answers and leaves
 use Rattle.std.specs.Prelude.{◌≡◌, List, ◌∷◌, ◌++◌, ℕ, ◌^◌, ◌≤◌, ◌<◌, Result, Ok, Err, length}
@@ -26,17 +26,17 @@ fault_bytes f = 0x2F ∷ f.layer ∷ f.cause ∷ two f.line
 abbrev pub most : ℕ
 most = 14
 
-pub data Tells (m : Made) : List ℕ → Type 0 where
+pub data Shows (m : Made) : List ℕ → Type 0 where
   -- there are too few cells
-  cells : most < length m.tasks → Tells m (fault_bytes (figures (Plan Memory)))
+  cells : most < length m.tasks → Shows m (fault_bytes (figures (Plan Memory)))
   -- no order is lawful
-  none : length m.tasks ≤ most → NoLawful m.tasks → Tells m (fault_bytes (figures (Plan NoOrder)))
+  none : length m.tasks ≤ most → NoLawful m.tasks → Shows m (fault_bytes (figures (Plan NoOrder)))
   -- the best order and its total, which three bytes hold
   order : (o : Order) (v : ℕ) → length m.tasks ≤ most → Best (worth_of m.worths) m.tasks o → v ≡ total (worth_of m.worths) m.tasks o →
-      Runs (worth_of m.worths) m.tasks o → v < 2 ^ 24 → Tells m (order_bytes o v)
+      Runs (worth_of m.worths) m.tasks o → v < 2 ^ 24 → Shows m (order_bytes o v)
 
 abbrev pub Answering : Result Made Figures → List ℕ → Type 0
-Answering (Ok m) bytes = Tells m bytes
+Answering (Ok m) bytes = Shows m bytes
 Answering (Err fault) bytes = bytes ≡ fault_bytes fault
 
 abbrev pub Answers : (file bytes : List ℕ) → Type 0

@@ -2,7 +2,7 @@
 #![tactic(auto)]
 
 ghost use Rattle.std.specs.Prelude.{◌≡◌, ◌≤◌, IfErr, IfOk, IsOk, drop, length, take};
-ghost use Rattle.answer.specs.Answers.{Answered, Answers, Tells, fault_bytes, most, order_bytes};
+ghost use Rattle.answer.specs.Answers.{Answered, Answers, Shows, fault_bytes, most, order_bytes};
 ghost use Rattle.file.specs.Faults.{figures};
 ghost use Rattle.file.specs.Loads.{made};
 ghost use Rattle.file.specs.declared.fault.Fault.TheVariants.{Plan};
@@ -26,10 +26,10 @@ const MOST: usize = 14;
 // There are 16,384 cells, enough for that many tasks.
 const CELLS: usize = 1 << MOST;
 
-// Before an order stand its kind and the count of tasks,
+// The kind and the count of tasks stand before the order.
 const HEAD: usize = 2;
 
-// and behind it the total in three bytes. No answer is longer without its closing byte.
+// The total stands behind it, in three bytes. No answer has more bytes before its closing one.
 const BYTES: usize = HEAD + MOST + 3;
 
 // No line is longer: each byte has two digits, and 0A ends the line.
@@ -52,10 +52,10 @@ fn frame_order(bytes: &mut [u8; BYTES], count: usize, total: u32) -> usize
     HEAD + count + 3
 }
 
-// Writes the bytes that tell the best order, and answers how many they are.
-fn tell(sheet: &Sheet, book: &StandardBook, bytes: &mut [u8; BYTES]) -> Result<usize, Refusal>
-    ensures tells { IfOk result (λ len. (len ≤ BYTES) × Tells (made sheet.now book.now) (take len bytes.new)) }
-    ensures stops { IfErr result (λ e. Tells (made sheet.now book.now) (fault_bytes (figures (Plan e)))) }
+// Writes the bytes that show the best order and its total, and answers how many they are; refused as `plan` is.
+fn plan_bytes(sheet: &Sheet, book: &StandardBook, bytes: &mut [u8; BYTES]) -> Result<usize, Refusal>
+    ensures shows { IfOk result (λ len. (len ≤ BYTES) × Shows (made sheet.now book.now) (take len bytes.new)) }
+    ensures stops { IfErr result (λ e. Shows (made sheet.now book.now) (fault_bytes (figures (Plan e)))) }
 {
     let mut cells = [0; CELLS];
     let total = plan(sheet, book, &mut cells, &mut bytes[HEAD..HEAD + MOST])?;
@@ -70,7 +70,7 @@ fn answer_bytes(file: &[u8], bytes: &mut [u8; BYTES]) -> Result<usize, Fault>
     let mut sheet = Sheet::new();
     let mut book = StandardBook::new();
     load(file, &mut sheet, &mut book)?;
-    tell(&sheet, &book, bytes).map_err(|cause| Fault::Plan { cause })
+    plan_bytes(&sheet, &book, bytes).map_err(|cause| Fault::Plan { cause })
 }
 
 // The bytes that tell a fault.

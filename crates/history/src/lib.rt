@@ -12,6 +12,7 @@ use file::load;
 use plan::plan;
 use sheet::Sheet;
 
+// A call of a history.
 #[derive(Clone, Copy, Debug)]
 pub enum Call<'a> {
     // One of task, time, link, cut, hard, soft and plain.
