@@ -1,15 +1,17 @@
 // The line that answers a sheet file: the best order of its sheet and the total, or why there is none.
 #![tactic(auto)]
 
-ghost use Rattle.std.specs.Prelude.{◌≡◌, ◌≤◌, IfErr, IfOk, IsOk, drop, length, take};
+ghost use Rattle.std.specs.Prelude.{◌≡◌, ◌≤◌, ℕ, IfErr, IfOk, IsOk, drop, length, take};
 ghost use Rattle.answer.specs.Answers.{Answered, Answers, Shows, fault_bytes, most, order_bytes};
 ghost use Rattle.file.specs.Faults.{figures};
+ghost use Rattle.file.specs.Frames.{bytes_line};
 ghost use Rattle.file.specs.Loads.{made};
 ghost use Rattle.file.specs.declared.fault.Fault.TheVariants.{Plan};
+ghost use Rattle.plan.specs.Orders.{Order};
 
 use book::StandardBook;
 use common::Refusal;
-use file::{Fault, load, write_line};
+use file::{Fault, load_new, write_line};
 use plan::plan;
 use sheet::Sheet;
 
@@ -67,9 +69,7 @@ fn answer_bytes(file: &[u8], bytes: &mut [u8; BYTES]) -> Result<usize, Fault>
     ensures answers { IfOk result (λ len. (len ≤ BYTES) × Answers file.now (take len bytes.new)) }
     ensures stops { IfErr result (λ fault. Answers file.now (fault_bytes (figures fault))) }
 {
-    let mut sheet = Sheet::new();
-    let mut book = StandardBook::new();
-    load(file, &mut sheet, &mut book)?;
+    let (sheet, book) = load_new(file)?;
     plan_bytes(&sheet, &book, bytes).map_err(|cause| Fault::Plan { cause })
 }
 
@@ -88,10 +88,11 @@ fn fault_bytes(fault: Fault) -> [u8; 5]
 }
 
 // Writes the line that answers the file to the front of the memory, and answers its length; nothing behind it is written. Where
-// there is no room for all of it, nothing is; `LINE` bytes are room for any line.
+// there is no room for all of it, nothing is; `LINE` bytes are room for any line, and an order of 14 tasks takes all of them.
 pub fn answer(file: &[u8], out: &mut [u8]) -> Result<usize, Refusal>
     ensures answers { Answered file.now out.old out.new result }
     ensures room { LINE ≤ length out.old → IsOk result }
+    ensures longest { (o : Order) (v : ℕ) → length o ≡ most → length (bytes_line (order_bytes o v)) ≡ LINE }
 {
     let mut bytes = [0; BYTES];
     match answer_bytes(file, &mut bytes) {

@@ -6,7 +6,8 @@
 use Rattle.std.specs.Prelude.{Bool, true, not, ◌&&◌, List, [], ◌∷◌, ◌≡◌, ℕ, ◌-◌, ◌*◌, ◌/◌, nat_le, nat_lt, slice_index_or, set, replicate, Option, Some, None, if◌then◌else◌, ◌==◌}
 use Rattle.book.specs.Worths.{Meaning, top, latest}
 use Rattle.book.specs.declared.ramp.Ramp.{Ramp}
-use Rattle.common.specs.Refusals.{Rows}
+use Rattle.common.specs.Refusals.{Rows, number}
+use Rattle.common.specs.declared.refusal.Refusal.TheVariants.{UnknownTask, BookRule}
 
 -- the peak up to the knee, then a straight fall, rounded down, and 0 from the foot on
 unfoldable pub slope : (peak knee foot at : ℕ) → ℕ
@@ -36,7 +37,7 @@ no_ramps = replicate 16 None
 
 -- the refusals that setting a ramp may get
 abbrev pub ramp_rows : (k peak knee foot : ℕ) → Rows
-ramp_rows k peak knee foot = (nat_le 16 k, 1) ∷ (not (sloped peak knee foot), 8) ∷ []
+ramp_rows k peak knee foot = (nat_le 16 k, number UnknownTask) ∷ (not (sloped peak knee foot), number BookRule) ∷ []
 
 -- the ramps with a new one for task k
 abbrev pub ramped : List (Option Ramp) → (k peak knee foot : ℕ) → List (Option Ramp)

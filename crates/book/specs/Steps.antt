@@ -7,7 +7,8 @@ use Rattle.std.specs.Prelude.{Bool, true, not, ◌&&◌, List, [], ◌∷◌, �
 use Rattle.book.specs.Worths.{Meaning, top, latest}
 use Rattle.book.specs.declared.step.Step.{Step}
 use Rattle.std.specs.Option.{option_map_or}
-use Rattle.common.specs.Refusals.{Rows}
+use Rattle.common.specs.Refusals.{Rows, number}
+use Rattle.common.specs.declared.refusal.Refusal.TheVariants.{UnknownTask, BookRule, StepsFull}
 
 -- the worth of the first step whose until is at least the time, and 0 after the last
 abbrev pub steps_worth : List Step → ℕ → ℕ
@@ -47,14 +48,15 @@ longer all k until worth = steps_of all k ++ a_step until worth ∷ []
 -- the refusals that adding a step for task k may get: with it at the end, the steps must keep their rule
 abbrev pub step_rows : List (List Step) → (k until worth : ℕ) → Rows
 step_rows all k until worth =
-    (nat_le 16 k, 1) ∷ (not (stepped (longer all k until worth)), 8) ∷ (nat_le 6 (length (steps_of all k)), 9) ∷ []
+    (nat_le 16 k, number UnknownTask) ∷ (not (stepped (longer all k until worth)), number BookRule)
+    ∷ (nat_le 6 (length (steps_of all k)), number StepsFull) ∷ []
 
 abbrev pub step_added : List (List Step) → (k until worth : ℕ) → List (List Step)
 step_added all k until worth = set all k (longer all k until worth)
 
 -- the refusals that dropping the steps of task k may get
 abbrev pub drop_rows : (k : ℕ) → Rows
-drop_rows k = (nat_le 16 k, 1) ∷ []
+drop_rows k = (nat_le 16 k, number UnknownTask) ∷ []
 
 abbrev pub steps_dropped : List (List Step) → ℕ → List (List Step)
 steps_dropped all k = set all k []

@@ -1,6 +1,7 @@
 -- Weights: that of each task, and what the call that sets one answers and leaves. Assumes nothing.
 use Rattle.std.specs.Prelude.{not, ◌&&◌, List, [], ◌∷◌, ◌≡◌, ℕ, nat_le, slice_index_or, replicate, if◌then◌else◌, ◌==◌}
-use Rattle.common.specs.Refusals.{Rows}
+use Rattle.common.specs.Refusals.{Rows, number}
+use Rattle.common.specs.declared.refusal.Refusal.TheVariants.{UnknownTask, BookRule}
 
 -- the weight of task k; 1 past the end
 abbrev pub weight_of : List ℕ → ℕ → ℕ
@@ -11,7 +12,7 @@ all_one = replicate 16 1
 
 -- the refusals that setting a weight may get
 abbrev pub weight_rows : (k w : ℕ) → Rows
-weight_rows k w = (nat_le 16 k, 1) ∷ (not (nat_le 1 w && nat_le w 16), 8) ∷ []
+weight_rows k w = (nat_le 16 k, number UnknownTask) ∷ (not (nat_le 1 w && nat_le w 16), number BookRule) ∷ []
 
 -- the call that answers n turns the weights ws into ws': where it is accepted, task k has the new weight; every other stays
 abbrev pub Reweighed : (ws ws' : List ℕ) (k w n : ℕ) → Type 0

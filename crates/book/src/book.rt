@@ -7,9 +7,6 @@ use common::Expected;
 // No worth is above it.
 pub const TOP: u32 = 1000000;
 
-// The last time that a curve may name.
-pub const LATEST: u32 = 1048575;
-
 // A worth for each task number and each time. A kind of book states what it means and shows that this is sound; then it serves
 // wherever a book is asked.
 pub trait Book {

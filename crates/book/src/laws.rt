@@ -3,10 +3,10 @@ ghost use Rattle.std.specs.Prelude.{◌≡◌, ◌-◌, ◌*◌, ◌/◌, ◌^�
 ghost use Rattle.book.specs.Standard.{Alike, Others_stay, contents};
 ghost use Rattle.book.specs.Worths.{Layered, Meaning, Sound, latest, top};
 
-use crate::book::{Book, LATEST, TOP};
+use crate::book::{Book, TOP};
 use crate::ramp::RampBook;
 use crate::standard::StandardBook;
-use common::Expected;
+use common::{Expected, LATEST};
 
 // A kind of book that states its meaning and shows the laws of the trait is sound.
 pub fn kind_stands<B: Book>(book: &B)
@@ -32,8 +32,8 @@ pub fn last_worth<B: Book>(book: &B, task: u8) -> u32
     book.worth(task, Expected::from(u32::MAX))
 }
 
-// The worth where a ramp's product is the greatest, the highest peak times the ticks left at time 1 of the longest fall, which needs
-// 64 bits; and that at the last 32-bit time, which is 0.
+// The worth where a ramp's product is the greatest, the highest peak times the ticks left at time 1 of the longest fall, which
+// needs 64 bits; and that at the last 32-bit time, which is 0.
 #[tactic(auto, unfolding(crate::specs::Ramps::slope))]
 pub fn widest_product() -> (u32, u32)
     ensures { (result.0 ≡ top * (latest - 1) / latest) × (result.1 ≡ 0) }

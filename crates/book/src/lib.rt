@@ -12,7 +12,7 @@ mod standard;
 mod step;
 mod weights;
 
-pub use book::{Book, LATEST, TOP};
+pub use book::{Book, TOP};
 pub use call::Call;
 pub use keenness::keenest;
 pub use laws::{equal_books, kind_stands, last_worth, layers_stand, others_stay, widest_product};

@@ -6,9 +6,9 @@ ghost use Rattle.book.specs.Ramps.{keeps_rule, no_ramps, ramp_meaning, ramp_of, 
 ghost use Rattle.book.specs.Ramps.{ramped, slope, sloped, Ramped};
 ghost use Rattle.common.specs.Refusals.{Answered, outcome};
 
-use crate::book::{Book, LATEST, TOP};
+use crate::book::{Book, TOP};
 use crate::place::place;
-use common::{Exact, Expected, Refusal};
+use common::{Exact, Expected, LATEST, Refusal};
 
 // Worth the peak up to the knee, then in proportion to what is left to the foot, and nothing from the foot on.
 #[derive(Clone, Copy, Debug, PartialEq, Eq)]

@@ -56,6 +56,7 @@ impl StandardBook {
     // The weight of the task; 1 for a number above 15.
     pub fn weight_of(&self, t: u8) -> u32
         ensures value { result ≡ weight_of (contents self.now).weights t }
+        ensures some { 1 ≤ result }
         ensures light { result ≤ 16 }
     {
         self.layers.weights.of(t)

@@ -6,9 +6,9 @@ ghost use Rattle.book.specs.Steps.{Dropped, Stepped, blank, drop_rows, no_steps}
 ghost use Rattle.book.specs.Steps.{step_added, step_meaning, step_rows, stepped, steps_dropped, steps_of, steps_worth};
 ghost use Rattle.common.specs.Refusals.{Answered, outcome};
 
-use crate::book::{Book, LATEST, TOP};
+use crate::book::{Book, TOP};
 use crate::place::place;
-use common::{Exact, Expected, Refusal};
+use common::{Exact, Expected, LATEST, Refusal};
 
 const MOST_STEPS: u8 = 6;
 

@@ -30,6 +30,7 @@ impl Weights {
     // The weight of the task; 1 for a number above 15.
     pub(crate) fn of(&self, t: u8) -> u32
         ensures value { result ≡ weight_of (weights_in self.now) t }
+        ensures some { 1 ≤ result }
         ensures light { result ≤ 16 }
     {
         self.list.get(usize::from(t)).copied().map_or(1, u32::from)

@@ -13,4 +13,4 @@ pub use exact::{Exact, same};
 pub use fraction::Fraction;
 pub use refusal::Refusal;
 pub use task_set::{MOST, TaskSet};
-pub use ticks::{AtExpected, AtMaximum, Expected, Margin, Maximum, Ticks};
+pub use ticks::{AtExpected, AtMaximum, Expected, LATEST, Margin, Maximum, Ticks};

@@ -37,7 +37,7 @@ pub enum Refusal {
     BadSum = 12,
     // The frame is of no known kind, or has not the length of its kind.
     BadFrame = 13,
-    // The memory lent is too short. Of a plan it comes before all others.
+    // The memory lent is too short, or the file to load has more than 65,535 bytes. Of a plan it comes before all others.
     Memory = 14,
     // The task is in the row.
     Placed = 15,

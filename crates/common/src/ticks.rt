@@ -22,6 +22,9 @@ pub type Expected = Ticks<AtExpected>;
 
 pub type Maximum = Ticks<AtMaximum>;
 
+// No deadline is later, and no time that a curve names.
+pub const LATEST: u32 = 1048575;
+
 // What is left of a deadline; below 0 where it is missed.
 #[derive(Clone, Copy, Debug, PartialEq, Eq)]
 pub struct Margin(pub i64);

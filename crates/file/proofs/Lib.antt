@@ -2,6 +2,7 @@ pub mod Again
 pub mod Bytes
 pub mod Coding
 pub mod CurvesGo
+pub mod Cuts
 pub mod Cutting
 pub mod Found
 pub mod Going

@@ -101,25 +101,6 @@ pub saved-some : (text out out' : List ℕ) (r : Result ℕ Refusal) → length 
 saved-some text out out' (Ok n) room w is = grind (arith, is)
 saved-some text out out' (Err e) room w is = omega (arith, room, w.1)
 
-one-made : (a : Result Made Figures) (m m' : Made) → a ≡ Ok m → a ≡ Ok m' → m ≡ m'
-one-made a m m' is also = cc
-
-module _ {T : Type 0} (A B : Type 0) (r : Result T Fault) (s s' : Sheet) (x x' : StandardBook) (file : List ℕ)
-    (loads : loaded file ≡ Ok (made s x)) (says : MatchResult r (λ _. loaded file ≡ Ok (made s' x')) (λ fault. (loaded file ≡ Err (figures fault)) × A × B)) where
-  pub loaded-some : None ≡ result_ok r → ⊥
-  loaded-some is = by r is says
-    where
-      by : (r : Result T Fault) → None ≡ result_ok r → MatchResult r (λ _. loaded file ≡ Ok (made s' x')) (λ fault. (loaded file ≡ Err (figures fault)) × A × B) → ⊥
-      by (Ok y) is says = grind (arith, is)
-      by (Err f) is says = grind (arith, loads, says.0)
-
-  pub loaded-made : (y : T) → Some y ≡ result_ok r → made s' x' ≡ made s x
-  loaded-made y is = by r is says
-    where
-      by : (r : Result T Fault) → Some y ≡ result_ok r → MatchResult r (λ _. loaded file ≡ Ok (made s' x')) (λ fault. (loaded file ≡ Err (figures fault)) × A × B) → made s' x' ≡ made s x
-      by (Ok z) is says = one-made (loaded file) (made s' x') (made s x) says loads
-      by (Err f) is says = absurd (grind (arith, is))
-
 -- ---- a sheet is its table, a book its contents
 
 pub same-table : (a b : Sheet) → table a ≡ table b → a ≡ b
@@ -131,3 +112,9 @@ same-contents a b e =
 
 pub same-made : (s s' : Sheet) (x x' : StandardBook) → made s x ≡ made s' x' → ◌≡◌ {A = Option (Sheet × StandardBook)} (Some (s, x)) (Some (s', x'))
 same-made s s' x x' e = ap₂ (λ a b. Some (a, b)) (same-table s s' (ap (λ (m : Made). m.tasks) e)) (same-contents x x' (ap (λ (m : Made). m.worths) e))
+
+-- what a file of this sheet and this book is loaded as
+pub loads-same : (file : List ℕ) (s : Sheet) (x : StandardBook) → loaded file ≡ Ok (made s x) → (r : Result (Sheet × StandardBook) Fault)
+    → MatchResult r (λ y. loaded file ≡ Ok (made y.0 y.1)) (λ fault. loaded file ≡ Err (figures fault)) → result_ok r ≡ Some (s, x)
+loads-same file s x loads (Ok y) says = let one : made y.0 y.1 ≡ made s x = cc in same-made y.0 s y.1 x one
+loads-same file s x loads (Err fault) says = absurd (grind (arith, loads, says))

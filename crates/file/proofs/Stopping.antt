@@ -1,12 +1,13 @@
 -- A load goes line by line. Assumes nothing.
 use Rattle.std.proofs.Common.{◌≡◌, refl, sym, ap, subst, ◌∙◌, Bool, true, false, ◌==◌, if◌then◌else◌, List, [], ◌∷◌, ℕ, zero, suc, ◌+◌, ◌-◌, ◌<◌, ◌≤◌, Result, Ok, Err, arith, length, map, nat_lt, slice_index_or, take}
 use Rattle.std.proofs.lemmas.Bool.Decides.{nat_tests}
+use Rattle.std.proofs.lemmas.List.{take_all}
 use Rattle.std.specs.Result.{IsOk}
 use Rattle.common.specs.declared.refusal.Refusal.{Refusal}
 use Rattle.file.proofs.Loads.{run-cons, run-none}
 use Rattle.file.specs.Faults.{Figures, figures, told}
 use Rattle.file.specs.Lines.{pieces}
-use Rattle.file.specs.Stopping.{AtFault, LineByLine}
+use Rattle.file.specs.Stopping.{AtFault, LineByLine, front, line_makes}
 use Rattle.file.specs.Loads.{Made, after, and_then, call_of, layer, loaded, longest, nothing_made, obeyed, run, verdict}
 use Rattle.file.specs.Readings.{Reading, reading}
 use Rattle.file.specs.declared.fault.Fault.TheVariants.{TooLong}
@@ -25,6 +26,42 @@ ok-front [] m n m' is (suc k) = subst IsOk (sym (run-none m n)) refl
 ok-front (p ∷ ps) m n m' is (suc k) =
     let (x, first, more) = then-ok (obeyed m n (reading p)) (λ x. run x (suc n) (map reading ps)) m' (sym (run-cons m n (reading p) (map reading ps)) ∙ is) in
     subst IsOk (sym (run-cons m n (reading p) (map reading (take k ps)) ∙ ap (λ a. and_then a (λ x. run x (suc n) (map reading (take k ps)))) first)) (ok-front ps x (suc n) m' more k)
+
+-- ---- a line more
+
+then-then : (a : Result Made Figures) (f g : Made → Result Made Figures) → and_then (and_then a f) g ≡ and_then a (λ x. and_then (f x) g)
+then-then (Ok x) f g = refl
+then-then (Err fault) f g = refl
+
+then-same : (a : Result Made Figures) (f g : Made → Result Made Figures) → ((x : Made) → f x ≡ g x) → and_then a f ≡ and_then a g
+then-same (Ok x) f g same = same x
+then-same (Err fault) f g same = refl
+
+-- what line n + k makes of what the k lines before it make, the first of them line n
+behind : (ps : List (List ℕ)) (n k : ℕ) → Made → Result Made Figures
+behind ps n k x = obeyed x (n + k) (reading (slice_index_or ps k []))
+
+run-more : (ps : List (List ℕ)) (m : Made) (n k : ℕ) → k < length ps → run m n (map reading (take (suc k) ps)) ≡ and_then (run m n (map reading (take k ps))) (behind ps n k)
+unfolding behind
+run-more [] m n k low = absurd (omega (arith, low))
+run-more (p ∷ ps) m n zero low =
+    let at : n + 0 ≡ n = omega arith in
+    run-cons m n (reading p) []
+    ∙ then-done (obeyed m n (reading p))
+    ∙ ap (λ l. obeyed m l (reading p)) (sym at)
+    ∙ ap (λ a. and_then a (behind (p ∷ ps) n 0)) (sym (run-none m n))
+  where
+    then-done : (a : Result Made Figures) → and_then a (λ x. run x (suc n) []) ≡ a
+    then-done (Ok x) = run-none x (suc n)
+    then-done (Err fault) = refl
+run-more (p ∷ ps) m n (suc k) low =
+    let at : suc n + k ≡ n + suc k = omega arith in
+    let rest = λ (x : Made). run x (suc n) (map reading (take k ps)) in
+    run-cons m n (reading p) (map reading (take (suc k) ps))
+    ∙ then-same (obeyed m n (reading p)) _ _ (λ x. run-more ps x (suc n) k (omega (arith, low))
+    ∙ ap (λ l. and_then (rest x) (λ y. obeyed y l (reading (slice_index_or ps k [])))) at)
+    ∙ sym (then-then (obeyed m n (reading p)) rest (behind (p ∷ ps) n (suc k)))
+    ∙ ap (λ a. and_then a (behind (p ∷ ps) n (suc k))) (sym (run-cons m n (reading p) (map reading (take k ps))))
 
 -- ---- a fault is that of its line
 
@@ -75,9 +112,22 @@ too_long-ok : (b : Bool) (a : Result Made Figures) (m : Made) → (if b then Err
 too_long-ok true a m is = absurd (grind (arith, is))
 too_long-ok false a m is = is
 
+loaded-long : (file : List ℕ) → longest < length file → loaded file ≡ Err (figures TooLong)
+unfolding loaded
+loaded-long file long = let is : nat_lt longest (length file) ≡ true = grind (arith, nat_tests) in ap (λ b. if b then Err (figures TooLong) else run nothing_made 1 (map reading (pieces file))) is
+
 pub loaded-short : (file : List ℕ) → length file ≤ longest → loaded file ≡ run nothing_made 1 (map reading (pieces file))
 unfolding loaded
 loaded-short file short = let is : nat_lt longest (length file) ≡ false = grind (arith, nat_tests) in ap (λ b. if b then Err (figures TooLong) else run nothing_made 1 (map reading (pieces file))) is
+
+front-more : (file : List ℕ) (k : ℕ) → k < length (pieces file) → front file (suc k) ≡ and_then (front file k) (line_makes file (suc k))
+unfolding behind
+front-more file k low =
+    let line : 1 + k ≡ suc k = omega arith in
+    let place : k ≡ suc k - 1 = omega arith in
+    run-more (pieces file) nothing_made 1 k low
+    ∙ ap (λ l. and_then (front file k) (λ m. obeyed m l (reading (slice_index_or (pieces file) k [])))) line
+    ∙ ap (λ i. and_then (front file k) (λ m. obeyed m (suc k) (reading (slice_index_or (pieces file) i [])))) place
 
 at_fault : (file : List ℕ) (fault : Figures) → Stops (pieces file) nothing_made 1 fault → AtFault file fault
 at_fault file fault s =
@@ -95,6 +145,10 @@ pub line_by_line : (file : List ℕ) → LineByLine file
 unfolding loaded
 line_by_line file =
     record {
+      none = run-none nothing_made 1;
+      more = front-more file;
+      all = λ short. loaded-short file short ∙ ap (λ ps. run nothing_made 1 (map reading ps)) (sym (take_all (length (pieces file)) (pieces file) (omega arith)));
+      too_long = loaded-long file;
       without = λ m is. ok-front (pieces file) nothing_made 1 m (too_long-ok (nat_lt longest (length file)) (run nothing_made 1 (map reading (pieces file))) m is);
       fault = λ fault short is. at_fault file fault (stopped (pieces file) nothing_made 1 fault (sym (loaded-short file short) ∙ is));
     }

@@ -1,21 +1,25 @@
 -- What is written is read again, and can be read in no other way. Assumes nothing.
+--     OneCutting        a file is made of its pieces, and of no others
 --     OneReading        a line is made of one frame and one note at most
 --     DecodedBack       the bytes of a frame that fits are decoded to that frame
 --     DecodedOnly       and no others that add up to 0 modulo 256 are
 --     ReadBack          the line of a frame and a note is read as that frame and that note
 --     SavedReads t b    what is saved of a table and a book's contents is cut into lines, each of which is read as its frame
 --     SavedLoads s b    what is saved of a sheet and a book is loaded as what they hold
-use Rattle.std.specs.Prelude.{List, ◌≡◌, ℕ, ◌%◌, ◌<◌, All, IfSome, Option, Some, None, Ok, map, sum}
+use Rattle.std.specs.Prelude.{List, ◌≡◌, ◌↔◌, ℕ, ◌%◌, ◌<◌, All, IfSome, Option, Some, None, Ok, map, sum}
 use Rattle.book.specs.Standard.{Contents, contents}
 use Rattle.book.specs.declared.standard.StandardBook.{StandardBook}
 use Rattle.file.specs.Frames.{Fits, Frame, decoded, encoded}
-use Rattle.file.specs.Lines.{IsLine, Prints, line_of, pieces}
+use Rattle.file.specs.Lines.{ArePieces, IsLine, Prints, line_of, pieces}
 use Rattle.file.specs.Loads.{loaded, made}
 use Rattle.file.specs.Readings.{reading}
 use Rattle.file.specs.Saved.{frames, saved}
 use Rattle.sheet.specs.Sheets.{table}
 use Rattle.sheet.specs.Tables.{Table}
 use Rattle.sheet.specs.declared.sheet.Sheet.{Sheet}
+
+abbrev pub OneCutting : Type 0
+OneCutting = (file : List ℕ) (ps : List (List ℕ)) → ArePieces ps file ↔ (ps ≡ pieces file)
 
 abbrev pub OneReading : Type 0
 OneReading =

@@ -4,6 +4,7 @@ pub mod Frames
 pub mod Lines
 pub mod Loads
 pub mod Names
+pub mod Parts
 pub mod Readings
 pub mod Saved
 pub mod Stopping

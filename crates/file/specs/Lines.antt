@@ -1,16 +1,29 @@
 -- The lines of a sheet file, as bytes: how a file is cut, and which frame and which note a line has. Assumes nothing.
 --     pieces file              the file, cut after each 0A; what follows the last one is a piece too
+--     ArePieces ps file        the file is made of these pieces
 --     pairs frame              the bytes of a frame as pairs of digits
 --     line_of frame note       the line of a frame and a note
 --     IsLine line frame note   the line is made of this frame and this note
 --     bytes_of digits          the bytes that pairs of digits stand for
 --     parts line               the frame and the note of a line; absent where it is no line
-use Rattle.std.specs.Prelude.{Bool, ◌&&◌, ◌||◌, List, [], ◌∷◌, ◌++◌, ◌≡◌, ℕ, ◌+◌, ◌-◌, ◌*◌, ◌/◌, ◌%◌, ◌<◌, ◌≤◌, All, IfSome, Option, Some, None, drop, if◌then◌else◌, length, nat_le, nat_lt, option_map, take, ◌==◌}
-use Rattle.std.specs.List.{onto_first, prefix_len}
+use Rattle.std.specs.Prelude.{Bool, ◌&&◌, ◌||◌, List, [], ◌∷◌, ◌++◌, ◌≡◌, ◌≢◌, ℕ, suc, ◌+◌, ◌-◌, ◌*◌, ◌/◌, ◌%◌, ◌<◌, ◌≤◌, All, IfSome, Option, Some, None, drop, if◌then◌else◌, length, nat_le, nat_lt, option_map, slice_index_or, take, ◌==◌}
+use Rattle.std.specs.List.{concat, onto_first, prefix_len}
 
 abbrev pub pieces : List ℕ → List (List ℕ)
 pieces [] = []
 pieces (b ∷ bs) = if b == 10 then (b ∷ []) ∷ pieces bs else onto_first b (pieces bs)
+
+-- 0A stands nowhere in the piece but perhaps at its end
+abbrev pub Uncut : List ℕ → Type 0
+Uncut piece = (i : ℕ) → suc i < length piece → slice_index_or piece i 0 ≢ 10
+
+pub record ArePieces (ps : List (List ℕ)) (file : List ℕ) : Type 0 where
+  -- one behind another they are the file, and none is empty
+  pub whole : concat ps ≡ file
+  pub some : All (λ piece. 0 < length piece) ps
+  -- 0A stands at the end of each but perhaps the last, and nowhere else in one
+  pub ended : (k : ℕ) → suc k < length ps → let piece = slice_index_or ps k [] in slice_index_or piece (length piece - 1) 0 ≡ 10
+  pub within : All Uncut ps
 
 -- the digit of a number below 16: 0 to 9, A to F
 abbrev pub digit : ℕ → ℕ

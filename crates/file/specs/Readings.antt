@@ -8,8 +8,7 @@ use Rattle.common.specs.Refusals.{number}
 use Rattle.common.specs.declared.refusal.Refusal.{Refusal}
 use Rattle.common.specs.declared.refusal.Refusal.TheVariants.{NotALine, BadSum, BadFrame}
 use Rattle.file.specs.Frames.{Fits, Frame, decoded, encoded}
-use Rattle.file.specs.Lines.{IsLine, Parts, bytes_of, parts}
-use Rattle.file.specs.declared.line.Parts.{Parts as PartSlices}
+use Rattle.file.specs.Lines.{IsLine, Parts, parts}
 use Rattle.file.specs.declared.reading.Reading.{Reading as ReadingSlices}
 
 pub record Reading : Type 0 where
@@ -44,9 +43,6 @@ Said line (Err e) = Refused line (number e)
 -- what slices show
 abbrev pub note_now : Option (Bor (List ℕ)) → Option (List ℕ)
 note_now = option_map (λ n. n.now)
-
-abbrev pub parts_now : PartSlices → Parts
-parts_now x = record { frame = bytes_of x.digits.now; note = note_now x.note }
 
 abbrev pub reading_now : ReadingSlices → Reading
 reading_now x = record { frame = x.frame; note = note_now x.note }

@@ -15,6 +15,7 @@ use Rattle.book.specs.Weights.{weight_of}
 use Rattle.book.specs.declared.step.Step.{Step}
 use Rattle.common.specs.Refusals.{number}
 use Rattle.common.specs.declared.refusal.Refusal.{Refusal}
+use Rattle.common.specs.declared.refusal.Refusal.TheVariants.{Memory}
 use Rattle.file.specs.Frames.{Frame, frame_line, task, link, hard, ramp, soft, step, weight}
 use Rattle.sheet.specs.Links.{linked}
 use Rattle.sheet.specs.Margins.{deadline_of}
@@ -76,4 +77,4 @@ saved t b = text_of (frames t b)
 
 abbrev pub Written : (text out out' : List ℕ) → Result ℕ Refusal → Type 0
 Written text out out' (Ok len) = (len ≡ length text) × (len ≤ length out) × (out' ≡ text ++ drop len out)
-Written text out out' (Err e) = (number e ≡ 14) × (length out < length text) × (out' ≡ out)
+Written text out out' (Err e) = (number e ≡ number Memory) × (length out < length text) × (out' ≡ out)

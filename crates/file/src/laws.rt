@@ -1,30 +1,32 @@
-// What holds of all lines and frames, of what is saved and loaded, and of names.
+// What holds of all files, lines and frames, of what is saved and loaded, and of names.
 ghost use Rattle.std.specs.Prelude.{◌≡◌, List, ℕ, ◌≤◌, Some, length};
 ghost use Rattle.book.specs.Standard.{contents};
-ghost use Rattle.file.specs.Again.{DecodedBack, DecodedOnly, OneReading, ReadBack, SavedLoads, SavedReads};
-ghost use Rattle.file.specs.Names.{NamesLie};
+ghost use Rattle.file.specs.Again.{DecodedBack, DecodedOnly, OneCutting, OneReading, ReadBack, SavedLoads, SavedReads};
+ghost use Rattle.file.specs.Names.{Counted, Named};
 ghost use Rattle.file.specs.Saved.{saved};
 ghost use Rattle.file.specs.Stopping.{LineByLine};
 ghost use Rattle.sheet.specs.Sheets.{table};
 
-use crate::loading::load;
+use crate::loading::load_new;
 use crate::saving::{ROOM, save};
 use book::StandardBook;
 use sheet::Sheet;
 
-// A line is made of one frame and one note at most; the bytes of a frame are decoded to that frame again, and no others that add
-// up to 0 modulo 256; and a line of a frame is read as that frame.
+// A file is made of its pieces, and of no others. A line is made of one frame and one note at most; the bytes of a frame are
+// decoded to that frame again, and no others that add up to 0 modulo 256; and a line of a frame is read as that frame.
 pub fn lines_stand()
+    ensures one_cutting { OneCutting }
     ensures one_reading { OneReading }
     ensures decoded_back { DecodedBack }
     ensures decoded_only { DecodedOnly }
     ensures read_back { ReadBack }
 {}
 
-// What is saved is read again, line by line, and is no longer than `ROOM`.
+// What is saved is read again, line by line, and is no longer than `ROOM`, which is 5,200.
 pub fn saved_reads(sheet: &Sheet, book: &StandardBook)
     ensures reads { SavedReads (table sheet.now) (contents book.now) }
     ensures short { length (saved (table sheet.now) (contents book.now)) ≤ ROOM }
+    ensures room { ROOM ≡ 5200 }
 {}
 
 // What is saved of a sheet and a book is loaded as what they hold.
@@ -32,7 +34,8 @@ pub fn saved_loads(sheet: &Sheet, book: &StandardBook)
     ensures { SavedLoads sheet.now book.now }
 {}
 
-// A load goes line by line, and the fault of a file is that of its first line at fault.
+// A load goes line by line: no line makes nothing, each line more makes its call, and all of them make what the file makes, unless
+// it is too long; and the fault of a file is that of its first line at fault.
 pub fn loads_stand()
     ensures { (file : List ℕ) → LineByLine file }
 {}
@@ -43,13 +46,11 @@ pub fn reloaded(sheet: &Sheet, book: &StandardBook) -> Option<(Sheet, StandardBo
 {
     let mut text = [0; ROOM];
     let len = save(sheet, book, &mut text).ok()?;
-    let mut sheet = Sheet::new();
-    let mut book = StandardBook::new();
-    load(&text[..len], &mut sheet, &mut book).ok()?;
-    Some((sheet, book))
+    load_new(&text[..len]).ok()
 }
 
-// The bytes of a name stand in the sheet file or in the names file.
+// A name is the note of its task line, or else a line of the names file, without the blanks at its end, and it stands there.
 pub fn names_lie()
-    ensures { NamesLie }
+    ensures named { Named }
+    ensures counted { Counted }
 {}

@@ -16,7 +16,7 @@ mod writer;
 pub use fault::Fault;
 pub use frame::Frame;
 pub use laws::{lines_stand, loads_stand, names_lie, reloaded, saved_loads, saved_reads};
-pub use loading::{LONGEST, load};
+pub use loading::{LONGEST, MOST_READ, load, load_new};
 pub use naming::name;
 pub use reading::{Reading, read};
 pub use saving::{ROOM, save};

@@ -3,7 +3,8 @@ ghost use Rattle.std.specs.Prelude.{◌≡◌, ℕ, ◌+◌, ◌*◌, ◌%◌, �
 ghost use Rattle.file.specs.Frames.{decoded};
 ghost use Rattle.std.specs.List.{list_all, prefix_len};
 ghost use Rattle.file.specs.Lines.{bytes_of, is_digit, note_in, parts, prints, value};
-ghost use Rattle.file.specs.Readings.{note_now, parts_now};
+ghost use Rattle.file.specs.Parts.{parts_now};
+ghost use Rattle.file.specs.Readings.{note_now};
 
 use crate::frame::Frame;
 use std::array;

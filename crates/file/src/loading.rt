@@ -15,6 +15,9 @@ use sheet::Sheet;
 // A longer file is not loaded.
 pub const LONGEST: usize = 65535;
 
+// So many bytes of a file tell whether it is longer.
+pub const MOST_READ: u64 = LONGEST as u64 + 1;
+
 // Makes the call of a line.
 fn make(call: Call, line: u16, sheet: &mut Sheet, book: &mut StandardBook) -> Result<(), Fault>
     ensures makes { IfOk result (λ _. called (made sheet.old book.old) line call ≡ Ok (made sheet.new book.new)) }
@@ -49,17 +52,24 @@ fn make_all(file: &[u8]) -> Result<(Sheet, StandardBook), Fault>
     Ok((sheet, book))
 }
 
-// Replaces the sheet and the book by those that the file means: each line makes its call, from the first on, on a new sheet and a
-// new book. At a fault both stay as they were: the file is too long, or a line can't be read or its call is refused.
+// The sheet and the book that the file means: each line makes its call, from the first on, on a new sheet and a new book. Or the
+// fault: the file is too long, or a line can't be read or its call is refused.
 #[tactic(auto, unfolding(crate::specs::Loads::loaded))]
+pub fn load_new(file: &[u8]) -> Result<(Sheet, StandardBook), Fault>
+    ensures { MatchResult result (λ x. loaded file.now ≡ Ok (made x.0 x.1)) (λ fault. loaded file.now ≡ Err (figures fault)) }
+{
+    if file.len() > LONGEST {
+        return Err(Fault::TooLong);
+    }
+    make_all(file)
+}
+
+// Replaces the sheet and the book by those that the file means. At a fault both stay as they were.
 pub fn load(file: &[u8], sheet: &mut Sheet, book: &mut StandardBook) -> Result<(), Fault>
     ensures { MatchResult result
         (λ _. loaded file.now ≡ Ok (made sheet.new book.new))
         (λ fault. (loaded file.now ≡ Err (figures fault)) × (sheet.new ≡ sheet.old) × (book.new ≡ book.old)) }
 {
-    if file.len() > LONGEST {
-        return Err(Fault::TooLong);
-    }
-    (*sheet, *book) = make_all(file)?;
+    (*sheet, *book) = load_new(file)?;
     Ok(())
 }

@@ -1,6 +1,7 @@
 // The names of tasks: notes of task lines, and the lines of a names file.
 ghost use Rattle.std.specs.Prelude.{◌≡◌, ◌≤◌, ◌<◌, MatchResult, length, option_map, slice_get};
 ghost use Rattle.common.specs.Refusals.{number};
+ghost use Rattle.common.specs.declared.refusal.Refusal.TheVariants.{UnknownTask};
 ghost use Rattle.file.specs.Lines.{parts};
 ghost use Rattle.file.specs.Names.{name_of, names_line, task_note, task_notes, trimmed};
 
@@ -63,7 +64,7 @@ fn names_line(names: &[u8], t: u8) -> &[u8]
 pub fn name<'a>(file: &'a [u8], names: &'a [u8], t: u8) -> Result<&'a [u8], Refusal>
     ensures { let count = length (task_notes file.now) in MatchResult result
         (λ name. (t < count) × (name.now ≡ name_of file.now names.now t))
-        (λ e. (count ≤ t) × (number e ≡ 1)) }
+        (λ e. (count ≤ t) × (number e ≡ number UnknownTask)) }
 {
     let own = trimmed(note_of_task(file, t).ok_or(Refusal::UnknownTask)?);
     if own.is_empty() {

@@ -4,8 +4,9 @@
 --                          order buffer is `order` before and `order'` after
 use Rattle.std.specs.Prelude.{◌≡◌, ◌≢◌, ◌⊎◌, ◌↔◌, List, ℕ, ◌<◌, ◌≤◌, IfOk, Result, length, take}
 use Rattle.book.specs.Worths.{Meaning}
-use Rattle.common.specs.Refusals.{outcome}
+use Rattle.common.specs.Refusals.{number, outcome}
 use Rattle.common.specs.declared.refusal.Refusal.{Refusal}
+use Rattle.common.specs.declared.refusal.Refusal.TheVariants.{NoOrder}
 use Rattle.plan.specs.Orders.{InTime, Lawful, NoLawful, Order, expected, maximum}
 use Rattle.plan.specs.Planned.{Suffices}
 use Rattle.plan.specs.Totals.{Before, earned, total}
@@ -23,9 +24,9 @@ pub record BestOrder (m : Meaning) (t : Table) (cells order order' : List ℕ) (
   pub best : IfOk r (λ sum. (p : Order) → Lawful t p → p ≢ answered t order' →
       (total m t p < sum) ⊎ ((total m t p ≡ sum) × Before (answered t order') p))
   -- where memory suffices, 10 is answered exactly when no order is lawful,
-  pub none : Suffices t cells order → (outcome r ≡ 10) ↔ NoLawful t
+  pub none : Suffices t cells order → (outcome r ≡ number NoOrder) ↔ NoLawful t
   -- and otherwise a total and an order
-  pub some : Suffices t cells order → (outcome r ≡ 10) ⊎ (outcome r ≡ 0)
+  pub some : Suffices t cells order → (outcome r ≡ number NoOrder) ⊎ (outcome r ≡ 0)
   -- whatever time each task of a run of that order takes: where no task takes longer than is expected, the sum that is earned is at
   -- least the total
   pub earns : IfOk r (λ sum. (run : ℕ → ℕ) → ((k : ℕ) → k < length t → run k ≤ expected t k) →

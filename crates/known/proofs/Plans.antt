@@ -129,7 +129,7 @@ module _ (t : Table) (r : Sound t) where
       λ f. rw all-kept (all-from (λ o. not (goes t s o) || p o) _ (λ o. ⊎_elim (λ g. let e = (decides o).1 (f o ((goes-decides s o).0 g)) in grind arith) (λ g. grind arith) (cases_Bool (goes t s o)))),
     )
 
-    one : Decides (list_any p (following t s)) ((o : Order) × Continuation t s o × P o)
+    pub one : Decides (list_any p (following t s)) ((o : Order) × Continuation t s o × P o)
     one = (
       λ h.
           let found = any-to (λ o. goes t s o && p o) _ (rw any-kept at h) in
@@ -141,7 +141,7 @@ module _ (t : Table) (r : Sound t) where
           (cases_Bool (list_any p (following t s))),
     )
 
-  none : Decides (none_lawful t) (NoLawful t)
+  pub none : Decides (none_lawful t) (NoLawful t)
   none =
       Decides-at _ _
       (sym (no-order (following t 0)))
@@ -159,7 +159,7 @@ module _ (t : Table) (r : Sound t) where
       behind-decides : (p : Order) → Decides (behind m t o v p) ((p ≡ o) ⊎ ((total m t p < v) ⊎ ((total m t p ≡ v) × Before o p)))
       behind-decides p = Decides-or _ _ (bytes_eq-Decides p o) (Decides-or _ _ (Decides-ltb _ v) (Decides-and _ _ (Decides-eqb _ v) (before-decides o p)))
 
-      best : Decides (is_best m t o v) (Best m t o × (v ≡ total m t o))
+      pub best : Decides (is_best m t o v) (Best m t o × (v ≡ total m t o))
       best =
           Decides-like _
           (λ h. (

@@ -15,7 +15,7 @@ use Rattle.plan.proofs.Orders.{lawful-from, lawful-to}
 use Rattle.plan.specs.Orders.{Lawful, Order, times}
 use Rattle.plan.specs.Totals.{Before}
 use Rattle.row.proofs.Judging.{judged-accepted, judged-no-order, judged-not-ready, judged-placed, judged-unknown}
-use Rattle.row.proofs.Laying.{follows, length-row, set-has}
+use Rattle.row.proofs.Laying.{follows, length-row, set_has}
 use Rattle.row.specs.Rows.{First, Judged, Leads, set_of}
 use Rattle.sheet.proofs.Rules.{Sound}
 use Rattle.sheet.specs.Links.{linked}
@@ -67,7 +67,7 @@ module _ (t : Table) (r : Sound t) where
     below x = let no = not_from_Decides false x refl in ⊎_elim (λ lt. lt) (λ ge. absurd (no ge)) (cases_lt k (length t))
 
     out : Decides false (0 < times k row) → has (set_of row) k ≡ false
-    out y = set-has k row ∙ false_from_ne_true _ (λ e. not_from_Decides false y refl (ltb-true _ _ e))
+    out y = set_has k row ∙ false_from_ne_true _ (λ e. not_from_Decides false y refl (ltb-true _ _ e))
 
     -- a direct predecessor is not in the row
     abbrev Lacks : Type 0
@@ -80,12 +80,12 @@ module _ (t : Table) (r : Sound t) where
     ready none a l e = none (a, (r.known a k l).0, (l, e))
 
     not-ready : Lacks → ((a : ℕ) → linked t a k ≡ true → has (set_of row) a ≡ true) → ⊥
-    not-ready x all = let there = all x.0 x.2.0 in let e = set-has x.0 row in let none = x.2.1 in absurd (grind (arith, nat_tests))
+    not-ready x all = let there = all x.0 x.2.0 in let e = set_has x.0 row in let none = x.2.1 in absurd (grind (arith, nat_tests))
 
     by-tests : (u p l so : Bool) → Decides u (length t ≤ k) → Decides p (0 < times k row) → Decides l Lacks → Decides so (Leads t (row ++ k ∷ []))
         → Judged t row k (first_fit ((u, 1) ∷ (p, 15) ∷ (l, 16) ∷ (not so, 17) ∷ []))
     by-tests true p l so x y z w = judged-unknown t r row k (x.0 refl)
-    by-tests false true l so x y z w = judged-placed t r row k (below x) (set-has k row ∙ lt-ltb _ _ (y.0 refl))
+    by-tests false true l so x y z w = judged-placed t r row k (below x) (set_has k row ∙ lt-ltb _ _ (y.0 refl))
     by-tests false false true so x y z w = judged-not-ready t r row k (below x) (out y) (not-ready (z.0 refl))
     by-tests false false false true x y z w = judged-accepted t row k (w.0 refl)
     by-tests false false false false x y z w =

@@ -3,8 +3,11 @@
 --     next t e            the table after it, also where a call is refused
 --     next_book b e       the contents of the book after it
 --     all_right t b es    each of the entries es has it, one after another from t and b
+--     each_right sheets   the entries of each worked sheet have it, from a new sheet and a new book on
+use denote.Ref.{Bor}
 use Rattle.std.specs.Prelude.{◌≡◌, ℕ, ◌*◌, Bool, true, false, not, ◌&&◌, List, [], ◌∷◌, pos, Some, None, Decides, Option, ◌==◌, bytes_eq, int_lt, is_none, length, nat_le, nat_lt, option_map, sum_by}
 use Rattle.std.specs.Bool.{beq}
+use Rattle.std.specs.List.{list_all}
 use Rattle.std.specs.Option.{option_eq}
 use Rattle.std.specs.Ordering.{int_eq}
 use Rattle.book.specs.Keenest.{Keenest as BookKeenest, effort, soft}
@@ -18,10 +21,12 @@ use Rattle.common.specs.Sets.{any}
 use Rattle.sheet.specs.Tables.{Table, expected_of, task_of}
 use Rattle.common.specs.declared.ticks.Margin.{Margin}
 use Rattle.known.specs.declared.entry.Entry.{Entry}
-use Rattle.known.specs.declared.entry.Entry.TheVariants.{New, OnSheet, OnBook, Linked, Expected, Above, Margin as MarginIs, Fits, Tightest, Worth, Keenest, Best, NoOrder, Cell, Place, Finish, Tally, Saved, Frames, Refused, Note, Names}
+use Rattle.known.specs.declared.entry.Entry.TheVariants.{OnSheet, OnBook, Linked, Expected, Above, Margin as MarginIs, Fits, Tightest, Worth, Keenest, Best, NoOrder, Cell, Place, Finish, Tally, Saved, Frames, Refused, Note, Names, Answer}
 use Rattle.file.specs.Lines.{pieces}
+use Rattle.file.specs.Loads.{loaded}
 use Rattle.file.specs.Readings.{note_now, reading}
 use Rattle.file.specs.Saved.{saved}
+use Rattle.known.specs.Answers.{is_answer}
 use Rattle.known.specs.Files.{all_names, all_read, all_refused, is_noted}
 use Rattle.known.specs.Plans.{is_best, is_cell, none_lawful}
 use Rattle.known.specs.Rows.{is_first, is_judged, leads}
@@ -64,7 +69,6 @@ pub record Tests (t : Table) : Type 0 where
   pub none_keen : Decides (none_soft t) ((k : ℕ) → soft t k ≡ false)
 
 abbrev pub right : Table → Contents → Entry → Bool
-right t b New = true
 right t b (OnSheet call answer) = sheet.verdict t call == outcome answer
 right t b (OnBook call answer) = book.verdict b call == outcome answer
 right t b (Linked x y answer) = beq (linked t x y) answer
@@ -89,17 +93,19 @@ right t b (Frames file fs) = all_read (pieces file.now) fs.now
 right t b (Refused file e) = all_refused (pieces file.now) e
 right t b (Note line answer) = is_noted (note_now answer) (reading line.now)
 right t b (Names file names answer) = bytes_eq (all_names file.now names.now) answer.now
+right t b (Answer file line) = is_answer (loaded file.now) line.now
 
 abbrev pub next : Table → Entry → Table
-next t New = []
 next t (OnSheet call answer) = sheet.after t call
 next t other = t
 
 abbrev pub next_book : Contents → Entry → Contents
-next_book b New = nothing
 next_book b (OnBook call answer) = book.after b call
 next_book b other = b
 
 abbrev pub all_right : Table → Contents → List Entry → Bool
 all_right t b [] = true
 all_right t b (e ∷ es) = right t b e && all_right (next t e) (next_book b e) es
+
+abbrev pub each_right : List (Bor (List Entry)) → Bool
+each_right = list_all (λ entries. all_right [] nothing entries.now)

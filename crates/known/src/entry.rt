@@ -4,8 +4,6 @@ use file::Frame;
 
 #[derive(Clone, Copy, Debug)]
 pub enum Entry {
-    // A new sheet and a new book, which the next entries are about.
-    New,
     OnSheet(sheet::Call, Result<(), Refusal>),
     OnBook(book::Call, Result<(), Refusal>),
     // Whether the link from the first to the second is there.
@@ -45,4 +43,6 @@ pub enum Entry {
     Note(&'static [u8], Option<&'static [u8]>),
     // By a sheet file and a names file, the names of the tasks in turn, each with 0A behind it; no further number has one.
     Names(&'static [u8], &'static [u8], &'static [u8]),
+    // The line that answers the file.
+    Answer(&'static [u8], &'static [u8]),
 }

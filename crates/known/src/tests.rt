@@ -1,6 +1,7 @@
-// The worked sheets, books, plans, rows and sheet files, run through the code.
+// The worked sheets, with their books, plans, rows and files, run through the code.
 use crate::entry::Entry;
-use crate::{worked, worked_files};
+use crate::worked;
+use answer::{LINE, answer};
 use book::{Book, StandardBook, keenest};
 use common::{Expected, Margin, Maximum, Refusal, TaskSet};
 use file::Frame;
@@ -114,15 +115,19 @@ fn names(file: &[u8], names: &[u8], answers: &[u8]) -> bool {
     })
 }
 
+// Whether the file is answered with the line.
+fn answers(file: &[u8], line: &[u8]) -> bool {
+    let mut memory = [MARK; LINE];
+    match answer(file, &mut memory) {
+        Ok(len) => memory.get(..len) == Some(line),
+        Err(_) => false,
+    }
+}
+
 // Makes the call or asks the question, and says whether it has its answer. Entries are data, not closures: the definitions read
 // them.
 fn right(sheet: &mut Sheet, book: &mut StandardBook, entry: Entry) -> bool {
     match entry {
-        Entry::New => {
-            *sheet = Sheet::new();
-            *book = StandardBook::new();
-            true
-        }
         Entry::OnSheet(call, answer) => sheet.make(call).map(|_| ()) == answer,
         Entry::OnBook(call, answer) => book.make(call) == answer,
         Entry::Linked(a, b, yes) => sheet.linked(a, b) == Ok(yes),
@@ -171,24 +176,18 @@ fn right(sheet: &mut Sheet, book: &mut StandardBook, entry: Entry) -> bool {
         Entry::Refused(file, refusal) => refuses(file, refusal),
         Entry::Note(line, note) => file::read(line).is_ok_and(|said| said.note == note),
         Entry::Names(file, names_file, answers) => names(file, names_file, answers),
+        Entry::Answer(file, line) => answers(file, line),
     }
 }
 
 #[test]
-fn the_worked_sheets_and_books(rt: HostRuntime) {
-    let mut sheet = Sheet::new();
-    let mut book = StandardBook::new();
-    for entry in worked() {
-        assert!(rt; right(&mut sheet, &mut book, entry));
-    }
-}
-
-#[test]
-fn the_worked_sheet_files(rt: HostRuntime) {
-    let mut sheet = Sheet::new();
-    let mut book = StandardBook::new();
-    for entry in worked_files() {
-        assert!(rt; right(&mut sheet, &mut book, entry));
+fn the_worked_sheets(rt: HostRuntime) {
+    for entries in worked() {
+        let mut sheet = Sheet::new();
+        let mut book = StandardBook::new();
+        for entry in *entries {
+            assert!(rt; right(&mut sheet, &mut book, *entry));
+        }
     }
 }
 

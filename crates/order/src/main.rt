@@ -2,11 +2,8 @@
 #![tactic(auto)]
 
 use answer::{LINE, answer};
-use file::LONGEST;
+use file::MOST_READ;
 use std::io::{self, Read, Write};
-
-// At most this many bytes are read: one more than a file may have.
-const MOST_READ: u64 = LONGEST as u64 + 1;
 
 fn main(rt: HostRuntime) -> io::Result<()> {
     let mut file = Vec::new(rt.alloc());

@@ -6,8 +6,9 @@
 --                                  `order'`
 use Rattle.std.specs.Prelude.{◌≡◌, ◌⊎◌, ◌↔◌, List, ℕ, ◌^◌, ◌≤◌, IfOk, Result, length, slice_index, take}
 use Rattle.book.specs.Worths.{Meaning}
-use Rattle.common.specs.Refusals.{outcome}
+use Rattle.common.specs.Refusals.{number, outcome}
 use Rattle.common.specs.declared.refusal.Refusal.{Refusal}
+use Rattle.common.specs.declared.refusal.Refusal.TheVariants.{NoOrder, Memory}
 use Rattle.plan.specs.Cells.{Filled}
 use Rattle.plan.specs.Orders.{NoLawful}
 use Rattle.plan.specs.Totals.{Best, Runs, total}
@@ -26,14 +27,14 @@ pub record Ordered (m : Meaning) (t : Table) (order order' : List ℕ) (v : ℕ)
   pub kept : KeptFrom (length t) order order'
 
 pub record Planned (m : Meaning) (t : Table) (cells cells' order order' : List ℕ) (r : Result ℕ Refusal) : Type 0 where
-  -- 14 exactly where memory does not suffice, and then nothing is written
-  pub memory : (outcome r ≡ 14) ↔ (Suffices t cells order → ⊥)
-  pub unwritten : outcome r ≡ 14 → (cells' ≡ cells) × (order' ≡ order)
+  -- refused for memory exactly where it does not suffice, and then nothing is written
+  pub memory : (outcome r ≡ number Memory) ↔ (Suffices t cells order → ⊥)
+  pub unwritten : outcome r ≡ number Memory → (cells' ≡ cells) × (order' ≡ order)
   -- else each set has its cell, and the cells past those are as before
   pub fills : Suffices t cells order → Filled m t cells' × KeptFrom (2 ^ length t) cells cells'
-  -- 10 exactly where memory suffices and no order is lawful; the order buffer is as before
-  pub none : (outcome r ≡ 10) ↔ (Suffices t cells order × NoLawful t)
-  pub unordered : outcome r ≡ 10 → order' ≡ order
+  -- refused for want of an order exactly where memory suffices and no order is lawful; the order buffer is as before
+  pub none : (outcome r ≡ number NoOrder) ↔ (Suffices t cells order × NoLawful t)
+  pub unordered : outcome r ≡ number NoOrder → order' ≡ order
   -- else a total, and the best order, which has it
   pub answer : IfOk r (Ordered m t order order')
-  pub only : (outcome r ≡ 0) ⊎ (outcome r ≡ 10) ⊎ (outcome r ≡ 14)
+  pub only : (outcome r ≡ 0) ⊎ (outcome r ≡ number NoOrder) ⊎ (outcome r ≡ number Memory)

@@ -20,8 +20,10 @@ pub fn margins_decide(sheet: &Sheet)
         FitsAfter (table sheet.now) s ↔ ((o : Order) × Continuation (table sheet.now) s o) }
 {}
 
-// A cell is above 0 exactly where its set has a continuation. That of the empty set is 0 exactly where no order is lawful.
+// The continuations of the empty set are the lawful orders. A cell is above 0 exactly where its set has a continuation, and that
+// of the empty set is 0 exactly where no order is lawful.
 pub fn cells_decide()
+    ensures empty { (t : Table) (o : Order) → Continuation t 0 o ↔ Lawful t o }
     ensures continues { (m : Meaning) (t : Table) (s v : ℕ) → Cell m t s v → (0 < v) ↔ ((o : Order) × Continuation t s o) }
     ensures lawful { (m : Meaning) (t : Table) (v : ℕ) → Cell m t 0 v → (v ≡ 0) ↔ NoLawful t }
 {}

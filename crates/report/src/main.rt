@@ -8,7 +8,7 @@
 use book::StandardBook;
 use by_hand::print_row;
 use calls::print_group;
-use file::{Fault, LONGEST, ROOM, load, save};
+use file::{Fault, MOST_READ, ROOM, load_new, save};
 use names::Names;
 use sheet::Sheet;
 use shown::print_refusal;
@@ -24,9 +24,6 @@ mod shown;
 mod table;
 mod timeline;
 mod week;
-
-// At most this many bytes are read: one more than a file may have.
-const MOST_READ: u64 = LONGEST as u64 + 1;
 
 // The text that the sheet and its book are saved as, or why there is no room for it.
 fn print_file(rt: &impl Print, sheet: &Sheet, book: &StandardBook) -> io::Result<()> {
@@ -70,11 +67,10 @@ fn print_fault(rt: &impl Print, fault: Fault) -> io::Result<()> {
 }
 
 fn run_file(rt: &impl Print, file: &[u8]) -> io::Result<()> {
-    let mut sheet = Sheet::new();
-    let mut book = StandardBook::new();
-    if let Err(fault) = load(file, &mut sheet, &mut book) {
-        return print_fault(rt, fault);
-    }
+    let (sheet, book) = match load_new(file) {
+        Ok(made) => made,
+        Err(fault) => return print_fault(rt, fault),
+    };
     let names = Names::Noted(file);
     print_sheet(rt, names, &sheet, &book)?;
     print_plan(rt, names, &sheet, &book)?;

@@ -1,17 +1,24 @@
 -- The first of the lawful orders that begin with a row: at each place the lowest task with which the row leads on. Assumes nothing.
-use Rattle.std.proofs.Common.{◌≡◌, ◌≢◌, refl, sym, ap, subst, ◌∙◌, inl, inr, ⊎_elim, [], ◌∷◌, ◌++◌, ℕ, ◌+◌, ◌<◌, arith, length}
+use Rattle.std.proofs.Common.{◌≡◌, ◌≢◌, refl, sym, ap, subst, subst₂, ◌∙◌, inl, inr, ⊎_elim, [], ◌∷◌, ◌++◌, ℕ, ◌+◌, ◌<◌, ◌≤◌, arith, length, slice_index_or}
 use Rattle.std.proofs.lemmas.Bool.{cases_lt, cases_order}
-use Rattle.std.proofs.lemmas.List.{append-nil, append_assoc}
+use Rattle.std.proofs.lemmas.List.{append-nil, append_assoc, append_cancel_left}
 use Rattle.plan.specs.Orders.{Lawful, Order}
 use Rattle.plan.specs.Totals.{Before}
 use Rattle.row.proofs.Laying.{length-row, more-fits}
-use Rattle.row.specs.Rows.{First, Leads}
+use Rattle.row.specs.Rows.{First, Leads, Lowest}
 use Rattle.sheet.proofs.Rules.{Sound}
 use Rattle.sheet.specs.Tables.{Table}
 
 before-behind : (row o p : Order) → Before o p → Before (row ++ o) (row ++ p)
 before-behind [] o p h = h
 before-behind (x ∷ row) o p h = inr (refl, before-behind row o p h)
+
+-- two orders that differ first where the one has k and the other u
+before-at : (front : Order) (k u : ℕ) (o p : Order) → Before (front ++ k ∷ o) (front ++ u ∷ p) → k ≤ u
+before-at [] k u o p (inl lt) = omega (arith, lt)
+before-at [] k u o p (inr same) = omega (arith, same.0)
+before-at (x ∷ front) k u o p (inl lt) = absurd (omega (arith, lt))
+before-at (x ∷ front) k u o p (inr same) = before-at front k u o p same.1
 
 -- no row with a task below n behind it leads on
 abbrev pub NoneBelow : Table → (row : Order) (n : ℕ) → Type 0
@@ -72,3 +79,19 @@ module _ (t : Table) (row : Order) where
       is [] e = e ∙ append-nil row
       is (k ∷ rest) e =
           absurd (let n = length-row t row [] (subst (Lawful t) (sym (append-nil row)) l) in let n' = length-row t row (k ∷ rest) (subst (Lawful t) e f.lawful) in omega arith)
+
+  -- each task behind the row is the lowest with which what stands before it leads on
+  pub first-lowest : (o : Order) → First t row o → Lowest t row o
+  first-lowest o f before k behind u e x = ⊎_elim (λ low. before-at (row ++ before) k u behind x.0 (later low)) (λ high. high) (cases_lt u k)
+    where
+      other : row ++ before ++ u ∷ [] ++ x.0 ≡ row ++ (before ++ u ∷ x.0)
+      other = append_assoc (row ++ before) (u ∷ []) x.0 ∙ append_assoc row before (u ∷ x.0)
+
+      apart : u < k → row ++ (before ++ u ∷ x.0) ≢ o
+      apart low same =
+          let ends = append_cancel_left (row ++ before) (u ∷ x.0) (k ∷ behind) (append_assoc row before (u ∷ x.0) ∙ same ∙ e) in
+          let heads : u ≡ k = ap (λ p. slice_index_or p 0 0) ends in
+          absurd (omega (arith, heads))
+
+      later : u < k → Before (row ++ before ++ k ∷ behind) (row ++ before ++ u ∷ x.0)
+      later low = subst₂ Before e (sym (append_assoc row before (u ∷ x.0))) (f.first (before ++ u ∷ x.0) (subst (Lawful t) other x.1) (apart low))

@@ -6,7 +6,7 @@ use Rattle.common.proofs.Sets.{any-decides}
 use Rattle.common.specs.Sets.{adding, any, has}
 use Rattle.plan.specs.Next.{May}
 use Rattle.plan.specs.Orders.{Order, times}
-use Rattle.row.proofs.Laying.{more-fits, more-leads, next-may, set-has}
+use Rattle.row.proofs.Laying.{more-fits, more-leads, next-may, set_has}
 use Rattle.row.specs.Rows.{Applies, Judged, Leads, set_of}
 use Rattle.row.specs.Rows.Applies.{unknown, placed, not_ready, no_order_so}
 use Rattle.sheet.proofs.Rules.{Sound}
@@ -23,8 +23,8 @@ judged-accepted t row k x = record { applies = inl refl; smallest = smallest; ac
 
     smallest : (j : ℕ) → Applies t row k j → (0 < 0) × (0 ≤ j)
     smallest j (unknown ge) = let lt = may.task in absurd (omega arith)
-    smallest j (placed h) = let e = set-has k row in let out = may.out in absurd (grind (arith, nat_tests))
-    smallest j (not_ready a l e) = let z = may.ready a l in let z' = set-has a row in absurd (grind (arith, nat_tests))
+    smallest j (placed h) = let e = set_has k row in let out = may.out in absurd (grind (arith, nat_tests))
+    smallest j (not_ready a l e) = let z = may.ready a l in let z' = set_has a row in absurd (grind (arith, nat_tests))
     smallest j (no_order_so none) = absurd (none x)
 
 -- a task that no other refusal applies to is answered 17 where the row does not lead on with it
@@ -62,7 +62,7 @@ module _ (t : Table) (r : Sound t) (row : Order) (k : ℕ) where
     pub judged-placed : has (set_of row) k ≡ true → Judged t row k 15
     judged-placed in' =
         record {
-          applies = inr (placed (grind (arith, nat_tests, set-has k row)));
+          applies = inr (placed (grind (arith, nat_tests, set_has k row)));
           smallest = smallest;
           accepted = (λ z. absurd (omega arith), λ x. absurd (both_ways _ (more-fits t r row k x).0.out in'));
         }
@@ -75,7 +75,7 @@ module _ (t : Table) (r : Sound t) (row : Order) (k : ℕ) where
 
     module _ (out : has (set_of row) k ≡ false) where
       never-placed : 0 < times k row → ⊥
-      never-placed h = let e = set-has k row in absurd (grind (arith, nat_tests))
+      never-placed h = let e = set_has k row in absurd (grind (arith, nat_tests))
 
       missing : (Ready → ⊥) → (a : ℕ) × ((linked t a k ≡ true) × (has (set_of row) a ≡ false))
       missing not-ready =
@@ -90,7 +90,7 @@ module _ (t : Table) (r : Sound t) (row : Order) (k : ℕ) where
       judged-not-ready not-ready =
           let m = missing not-ready in
           record {
-            applies = inr (not_ready m.0 m.1.0 (let e = set-has m.0 row in let o = m.1.1 in grind (arith, nat_tests)));
+            applies = inr (not_ready m.0 m.1.0 (let e = set_has m.0 row in let o = m.1.1 in grind (arith, nat_tests)));
             smallest = smallest;
             accepted = (λ z. absurd (omega arith), λ x. absurd (not-ready (more-fits t r row k x).0.ready));
           }
@@ -103,7 +103,7 @@ module _ (t : Table) (r : Sound t) (row : Order) (k : ℕ) where
 
       module _ (ready : Ready) where
         never-missing : (a : ℕ) → linked t a k ≡ true → times a row ≡ 0 → ⊥
-        never-missing a l e = let z = ready a l in let z' = set-has a row in absurd (grind (arith, nat_tests))
+        never-missing a l e = let z = ready a l in let z' = set_has a row in absurd (grind (arith, nat_tests))
 
         pub judged-late : (FitsAfter t (adding (set_of row) k) → ⊥) → Judged t row k 17
         judged-late late = judged-no-order t row k lt never-placed never-missing (λ x. late (more-fits t r row k x).1)

@@ -33,8 +33,8 @@ joined-has s u [] = grind (arith, nat_tests)
 joined-has s u (x ∷ row) = grind (arith, nat_tests, joined-has (adding s x) u row, has-adding s x u, times-cons u x row)
 
 -- it has the tasks of the row
-pub set-has : (u : ℕ) (row : Order) → has (set_of row) u ≡ ltb 0 (times u row)
-set-has u row = grind (arith, nat_tests, joined-has 0 u row, has-none u)
+pub set_has : (u : ℕ) (row : Order) → has (set_of row) u ≡ ltb 0 (times u row)
+set_has u row = grind (arith, nat_tests, joined-has 0 u row, has-none u)
 
 module _ (t : Table) where
   -- ---- a row in turn

@@ -6,6 +6,7 @@
 --     Judged t row k n      placing task k behind the row answers n: the smallest number of a refusal that applies, 0 where none
 --                           does
 --     First t row o         o is the first of the lawful orders that begin with the row, place by place
+--     Lowest t row o        at each place behind the row stands the lowest task that placing accepts there
 use Rattle.std.specs.Prelude.{◌≡◌, ◌≢◌, ◌↔◌, true, ◌⊎◌, [], ◌∷◌, ◌++◌, ℕ, ◌<◌, ◌≤◌, length}
 use Rattle.common.specs.Refusals.{number}
 use Rattle.common.specs.Sets.{adding}
@@ -46,3 +47,6 @@ pub record First (t : Table) (row o : Order) : Type 0 where
   pub begins : (rest : Order) × (o ≡ row ++ rest)
   -- every other lawful order that begins with the row comes later
   pub first : (rest : Order) → Lawful t (row ++ rest) → row ++ rest ≢ o → Before o (row ++ rest)
+
+abbrev pub Lowest : Table → (row o : Order) → Type 0
+Lowest t row o = (before : Order) (k : ℕ) (behind : Order) (u : ℕ) → o ≡ row ++ before ++ k ∷ behind → Leads t (row ++ before ++ u ∷ []) → k ≤ u

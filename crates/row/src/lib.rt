@@ -2,7 +2,8 @@
 #![tactic(auto)]
 
 ghost use Rattle.std.specs.Prelude.{◌≡◌, ◌⊎◌, []};
-ghost use Rattle.common.specs.Refusals.{outcome};
+ghost use Rattle.common.specs.Refusals.{number, outcome};
+ghost use Rattle.common.specs.declared.refusal.Refusal.TheVariants.{NoOrder};
 ghost use Rattle.plan.specs.Orders.{NoLawful};
 ghost use Rattle.row.specs.Laid.{laid};
 ghost use Rattle.row.specs.Rows.{Leads};
@@ -28,8 +29,8 @@ pub use trial::Trial;
 pub fn begin(sheet: &Sheet) -> (OpenRow, Result<(), Refusal>)
     ensures empty { laid result.0 ≡ [] }
     ensures begun { outcome result.1 ≡ 0 → (result.0.sheet ≡ sheet.now) × Leads (table sheet.now) [] }
-    ensures refused { outcome result.1 ≡ 10 → (table result.0.sheet ≡ []) × NoLawful (table sheet.now) }
-    ensures only { (outcome result.1 ≡ 0) ⊎ (outcome result.1 ≡ 10) }
+    ensures refused { outcome result.1 ≡ number NoOrder → (table result.0.sheet ≡ []) × NoLawful (table sheet.now) }
+    ensures only { (outcome result.1 ≡ 0) ⊎ (outcome result.1 ≡ number NoOrder) }
 {
     if sheet.fits() {
         (OpenRow::on(*sheet), Ok(()))

@@ -23,7 +23,7 @@ impl OpenRow {
     ghost use Rattle.std.specs.Prelude.{[], ◌∷◌, ◌++◌, IfErr};
     ghost use Rattle.common.specs.Refusals.{outcome, kept_unless};
     ghost use Rattle.row.specs.Laid.{laid, order};
-    ghost use Rattle.row.specs.Rows.{First, Judged};
+    ghost use Rattle.row.specs.Rows.{First, Judged, Lowest};
 
     pub(crate) fn on(sheet: Sheet) -> OpenRow
         requires { Leads (table sheet) [] }
@@ -95,6 +95,7 @@ impl OpenRow {
     pub fn finish(mut self) -> FullRow
         ensures sheet { result.sheet ≡ self.sheet }
         ensures first { First (table self.sheet) (laid self) (order result) }
+        ensures lowest { Lowest (table self.sheet) (laid self) (order result) }
     {
         for _ in self.placed.len()..u32::from(self.sheet.count()) {
             let mut t = 0;

@@ -11,6 +11,7 @@ use Rattle.std.specs.Prelude.{Bool, ◌≡◌, not, ◌&&◌, ◌||◌, [], ◌�
 use Rattle.common.specs.Refusals.{Answered, Rows, first_fit, kept_unless, number}
 use Rattle.common.specs.declared.refusal.Refusal.{Refusal}
 use Rattle.common.specs.Sets.{adding, removing}
+use Rattle.common.specs.declared.refusal.Refusal.TheVariants.{UnknownTask, SheetFull, Durations, Circle, NoLink, DeadlineRange, OtherKind}
 use Rattle.sheet.specs.Links.{linked, up}
 use Rattle.sheet.specs.Tables.{Table, task_of, is_soft, is_hard}
 pub use Rattle.sheet.specs.declared.call.Call.{Call}
@@ -26,7 +27,7 @@ unknown t k = nat_le (length t) k
 -- the answer to a question about task k: P holds of it; or a refusal with 1, exactly where no task has the number
 abbrev pub Asked : {A : Type 0} → Table → ℕ → (A → Type 0) → Result A Refusal → Type 0
 Asked t k P (Ok x) = (k < length t) × P x
-Asked t k P (Err e) = (length t ≤ k) × (number e ≡ 1)
+Asked t k P (Err e) = (length t ≤ k) × (number e ≡ number UnknownTask)
 
 abbrev pub lasts : ℕ → ℕ → Bool
 lasts min max = nat_le 1 min && (nat_le min max && nat_le max 65535)
@@ -35,13 +36,14 @@ abbrev pub in_range : ℕ → Bool
 in_range d = nat_le 1 d && nat_le d 1048575
 
 abbrev pub rows : Table → Call → Rows
-rows t (task min max) = (nat_le 16 (length t), 2) ∷ (not (lasts min max), 3) ∷ []
-rows t (time k min max) = (unknown t k, 1) ∷ (not (lasts min max), 3) ∷ []
-rows t (link a b) = (unknown t a || unknown t b, 1) ∷ (up t b a, 4) ∷ []
-rows t (cut a b) = (unknown t a || unknown t b, 1) ∷ (not (linked t a b), 5) ∷ []
-rows t (hard k d) = (unknown t k, 1) ∷ (not (in_range d), 6) ∷ (is_soft (task_of t k).kind, 7) ∷ []
-rows t (soft k) = (unknown t k, 1) ∷ (is_hard (task_of t k).kind, 7) ∷ []
-rows t (plain k) = (unknown t k, 1) ∷ []
+rows t (task min max) = (nat_le 16 (length t), number SheetFull) ∷ (not (lasts min max), number Durations) ∷ []
+rows t (time k min max) = (unknown t k, number UnknownTask) ∷ (not (lasts min max), number Durations) ∷ []
+rows t (link a b) = (unknown t a || unknown t b, number UnknownTask) ∷ (up t b a, number Circle) ∷ []
+rows t (cut a b) = (unknown t a || unknown t b, number UnknownTask) ∷ (not (linked t a b), number NoLink) ∷ []
+rows t (hard k d) =
+    (unknown t k, number UnknownTask) ∷ (not (in_range d), number DeadlineRange) ∷ (is_soft (task_of t k).kind, number OtherKind) ∷ []
+rows t (soft k) = (unknown t k, number UnknownTask) ∷ (is_hard (task_of t k).kind, number OtherKind) ∷ []
+rows t (plain k) = (unknown t k, number UnknownTask) ∷ []
 
 abbrev pub verdict : Table → Call → ℕ
 verdict t c = first_fit (rows t c)

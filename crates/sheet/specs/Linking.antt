@@ -1,5 +1,7 @@
 -- What `link` and `cut` mean, in the words of links and paths. Assumes nothing.
 use Rattle.std.specs.Prelude.{◌≡◌, true, not, ◌&&◌, ◌||◌, ◌⊎◌, ℕ, ◌<◌, ◌==◌, IsTrue, ◌↔◌, length}
+use Rattle.common.specs.Refusals.{number}
+use Rattle.common.specs.declared.refusal.Refusal.TheVariants.{Circle}
 use Rattle.sheet.specs.Links.{Path, linked, reaches, up}
 use Rattle.sheet.specs.Tables.{Table}
 
@@ -7,8 +9,8 @@ use Rattle.sheet.specs.Tables.{Table}
 pub record Linking (t t' : Table) (a b n : ℕ) : Type 0 where
   -- the test of a circle finds exactly the paths
   pub test : (x y : ℕ) → IsTrue (reaches t x y) ↔ Path t x y
-  -- 4 is answered exactly where both tasks exist and the link would close a circle
-  pub circle : (n ≡ 4) ↔ ((a < length t) × (b < length t) × ((b ≡ a) ⊎ Path t b a))
+  -- the refusal of a circle is answered exactly where both tasks exist and the link would close a circle
+  pub circle : (n ≡ number Circle) ↔ ((a < length t) × (b < length t) × ((b ≡ a) ⊎ Path t b a))
   -- an accepted link is there afterwards, and no other is new or gone
   pub adds : n ≡ 0 → (x y : ℕ) → linked t' x y ≡ (linked t x y || (x == a && y == b))
   -- a link that is there already changes nothing

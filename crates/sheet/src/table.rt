@@ -54,7 +54,7 @@ impl Kind {
     }
 
     // Whether this is hard, with a deadline of at most this one.
-    pub fn due_by(self, deadline: u32) -> bool
+    pub(crate) fn due_by(self, deadline: u32) -> bool
         ensures { result ≡ due_by deadline self }
     {
         self.deadline().is_some_and(|last| last <= deadline)

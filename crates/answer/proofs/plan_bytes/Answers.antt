@@ -23,7 +23,7 @@ returns-clause-shows c =
     let shows = order-shown m _ c.plan.new.cells _ c.plan.new.order cells long (standard-sound c.args.book.now) c.plan.result c.plan.ensures c.in_ok-total.total c.in_ok-total.was in
     let few = few-shown m _ c.plan.new.cells _ c.plan.new.order cells long c.plan.result c.plan.ensures c.in_ok-total.total c.in_ok-total.was in
     let behind = order-behind c.args.bytes.now c.plan.new.order (length m.tasks) c.told-bytes (omega (arith, few, long, c.plan.auto.order)) in
-    let count = c.from.ensures ∙ c.count.ensures in (
+    let count = c.from.ensures ∙ c.count.ensures.counts in (
       c.frame_order.ensures.within,
       subst (Shows m) (ap (λ o. order_bytes o c.in_ok-total.total) (sym (ap (λ n. take n (drop 2 (put_mid 2 14 c.args.bytes.now c.plan.new.order))) count ∙ behind)) ∙ sym c.frame_order.ensures.framed) shows,
     )

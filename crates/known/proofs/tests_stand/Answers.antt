@@ -1,3 +1,6 @@
+use Rattle.answer.proofs.Totals.{standard-sound}
+use Rattle.file.specs.Loads.{made}
+use Rattle.known.proofs.Answering.{deciding as deciding-answers}
 use Rattle.known.proofs.Deciding.{standing}
 use Rattle.known.proofs.Lines.{deciding as deciding-files}
 use Rattle.known.proofs.Plans.{deciding}
@@ -13,4 +16,5 @@ returns c =
       plans = deciding (table c.args.sheet.now) (sound-of c.args.sheet.now);
       rows = deciding-rows (table c.args.sheet.now) (sound-of c.args.sheet.now);
       files = deciding-files;
+      answers = deciding-answers (made c.args.sheet.now c.args.book.now) (sound-of c.args.sheet.now) (standard-sound c.args.book.now);
     }

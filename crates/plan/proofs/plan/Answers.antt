@@ -13,7 +13,7 @@ room : (g : Over) (c : After-fill g) → Suffices (table c.args.sheet.now) c.arg
 room g c =
     let t = table c.args.sheet.now in
     let few = few-listed c.args.sheet.now.table in
-    let count : c.from-count.result ≡ length t = omega (arith, c.from-count.ensures, c.count.ensures) in
+    let count : c.from-count.result ≡ length t = omega (arith, c.from-count.ensures, c.count.ensures.counts) in
     (omega (arith, shift-counts (length t) c.from-count.result count few, c.if-cells-count.false), omega (arith, count, c.if-order-count.false))
 
 pub returns-in_err-total : goal.returns-in_err-total

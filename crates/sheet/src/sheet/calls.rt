@@ -7,11 +7,9 @@ ghost use Rattle.sheet.specs.Sheets.{table};
 
 use crate::sheet::Sheet;
 use crate::table::{Kind, Task};
-use common::{MOST, Refusal};
+use common::{LATEST, MOST, Refusal};
 
 const LONGEST: u32 = 65535;
-
-const LAST_DEADLINE: u32 = 1048575;
 
 // The durations of a task, where they keep their rule.
 fn durations(min: u32, max: u32) -> Result<(u16, u16), Refusal>
@@ -87,7 +85,7 @@ impl Sheet {
         ensures { Called (table self.old) (table self.new) (hard t deadline) (outcome result) }
     {
         let task = self.get(t)?;
-        if !(1..=LAST_DEADLINE).contains(&deadline) {
+        if !(1..=LATEST).contains(&deadline) {
             return Err(Refusal::DeadlineRange);
         }
         if task.kind == Kind::Soft {

@@ -70,7 +70,8 @@ impl Sheet {
 
     // Whether no margin is below 0 of what is left where the tasks of `done` run first.
     pub fn fits_after(&self, done: TaskSet) -> bool
-        ensures { IsTrue result ↔ FitsAfter (table self.now) done.0 }
+        ensures fits { IsTrue result ↔ FitsAfter (table self.now) done.0 }
+        ensures none_run { FitsAfter (table self.now) 0 ↔ Fits (table self.now) }
     {
         self.margins_after(done)
             .iter()

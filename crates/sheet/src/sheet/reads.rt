@@ -1,6 +1,7 @@
 // What a sheet holds.
 ghost use Rattle.std.specs.Prelude.{◌≡◌, ◌⊎◌, ◌<◌, ◌≤◌, MatchResult, length};
 ghost use Rattle.common.specs.Refusals.{number};
+ghost use Rattle.common.specs.declared.refusal.Refusal.TheVariants.{UnknownTask};
 ghost use Rattle.sheet.specs.Calls.{Asked};
 ghost use Rattle.sheet.specs.Links.{linked};
 ghost use Rattle.sheet.specs.Sheets.{table};
@@ -13,7 +14,8 @@ use common::Refusal;
 impl Sheet {
     // How many tasks there are.
     pub fn count(&self) -> u8
-        ensures { result ≡ length (table self.now) }
+        ensures counts { result ≡ length (table self.now) }
+        ensures few { result ≤ 16 }
     {
         self.table.len()
     }
@@ -41,7 +43,7 @@ impl Sheet {
     pub fn linked(&self, a: u8, b: u8) -> Result<bool, Refusal>
         ensures { let t = table self.now in MatchResult result
             (λ yes. (a < length t) × (b < length t) × (yes ≡ linked t a b))
-            (λ e. ((length t ≤ a) ⊎ (length t ≤ b)) × (number e ≡ 1)) }
+            (λ e. ((length t ≤ a) ⊎ (length t ≤ b)) × (number e ≡ number UnknownTask)) }
     {
         self.get(a)?;
         Ok(self.get(b)?.before.contains(a))

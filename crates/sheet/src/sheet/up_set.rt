@@ -1,8 +1,8 @@
 // The up-set of a task: t with the up-sets of all tasks linked to t.
-ghost use Rattle.std.specs.Prelude.{◌≡◌, false, ◌||◌, ◌⊎◌, ◌↔◌, ℕ, ◌<◌, IfOk, IsTrue, length};
-ghost use Rattle.common.specs.Sets.{has};
+ghost use Rattle.std.specs.Prelude.{◌≡◌, ◌==◌, false, ◌&&◌, ◌||◌, ◌⊎◌, ◌↔◌, ℕ, ◌<◌, IfOk, IsTrue, length};
+ghost use Rattle.common.specs.Sets.{any, has};
 ghost use Rattle.sheet.specs.Calls.{Asked};
-ghost use Rattle.sheet.specs.Links.{Path, Closed, up};
+ghost use Rattle.sheet.specs.Links.{Path, Closed, linked, up};
 ghost use Rattle.sheet.specs.Sheets.{table};
 
 use crate::sheet::Sheet;
@@ -29,10 +29,12 @@ impl Sheet {
         all.with(t)
     }
 
-    // The up-set of task t.
+    // The up-set of task t: t with the up-sets of all tasks linked to t. A task is in it where it is t or a path leads from it to t.
     #[tactic(auto, using(crate::proofs::Ancestors::climbing))]
     pub fn up_set(&self, t: u8) -> Result<TaskSet, Refusal>
         ensures gives { Asked (table self.now) t (λ s. (u : ℕ) → has s.0 u ≡ up (table self.now) u t) result }
+        ensures descends { let sheet = table self.now in (u : ℕ) →
+            up sheet u t ≡ (u == t || any (length sheet) (λ p. linked sheet p t && up sheet u p)) }
         ensures paths { IfOk result (λ s. (u : ℕ) → IsTrue (has s.0 u) ↔ ((u ≡ t) ⊎ Path (table self.now) u t)) }
     {
         self.get(t)?;

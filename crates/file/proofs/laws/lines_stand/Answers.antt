@@ -1,6 +1,10 @@
 use Rattle.file.proofs.Coding.{decoded-encoded}
+use Rattle.file.proofs.Cuts.{one_cutting}
 use Rattle.file.proofs.Sayings.{decoded_only, one_reading, read_back}
 use Rattle.file.proofs.laws.lines_stand.Goals as goal
+
+pub returns-clause-one_cutting : goal.returns-clause-one_cutting
+returns-clause-one_cutting c = one_cutting
 
 pub returns-clause-one_reading : goal.returns-clause-one_reading
 returns-clause-one_reading c = one_reading

@@ -1,5 +1,8 @@
-use Rattle.file.proofs.Places.{name_part}
+use Rattle.file.proofs.Places.{counted, named}
 use Rattle.file.proofs.laws.names_lie.Goals as goal
 
-pub returns : goal.returns
-returns c = name_part
+pub returns-clause-named : goal.returns-clause-named
+returns-clause-named c = named
+
+pub returns-clause-counted : goal.returns-clause-counted
+returns-clause-counted c = counted

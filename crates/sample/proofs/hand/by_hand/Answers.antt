@@ -31,7 +31,7 @@ module _ (g : Over) (c : After-branch-lay g) where
   sheet = (c.begin-begun.ensures.begun (rw c.in_ok-begun.was refl)).0
 
   all : c.from.result - 0 ≡ length (table c.args.sheet.now)
-  all = omega (arith, c.from.ensures, c.count.ensures)
+  all = omega (arith, c.from.ensures, c.count.ensures.counts)
 
   best : Ordered (g.B.Book.meaning c.args.book.now) (table c.args.sheet.now) c.args.order.now c.plan.new.order c.in_ok-plan.field-0
   best = ordered _ _ _ _ _ _ _ _ c.plan.ensures c.in_ok-plan.was

@@ -8,5 +8,5 @@ use Rattle.row.proofs.full.FullRow.order.Goals as goal
 pub returns-clause-lawful : goal.returns-clause-lawful
 returns-clause-lawful c =
     let x = c.args.self.now in
-    let n : length (table x.sheet) ≡ c.from.result - 0 = omega (arith, c.from.ensures, c.count.ensures) in
+    let n : length (table x.sheet) ≡ c.from.result - 0 = omega (arith, c.from.ensures, c.count.ensures.counts) in
     subst (λ n. Lawful (table x.sheet) (take n x.order)) n (lawful-of (table x.sheet) (order x) x.lawful)

@@ -2,7 +2,7 @@ use Rattle.std.proofs.Common.{◌≡◌, ap, sym, subst, subst₂, ◌∙◌, �
 use Rattle.std.proofs.lemmas.Grind.{common_steps}
 use Rattle.std.proofs.lemmas.List.{length-append}
 use Rattle.std.specs.Int.RustNames.{count_ones}
-use Rattle.row.proofs.Firsts.{first-next, none-more}
+use Rattle.row.proofs.Firsts.{first-lowest, first-next, none-more}
 use Rattle.row.proofs.Held.{counts, ends, not-whole, whole}
 use Rattle.row.specs.Laid.{laid, order}
 use Rattle.row.specs.Rows.{First}
@@ -14,7 +14,7 @@ use Rattle.row.proofs.open.OpenRow.finish.Goals as goal
 
 -- how many places there are
 places : (c : After-judge) → c.from-end.result ≡ length (table c.loop.self.sheet)
-places c = c.from-end.ensures ∙ c.count.ensures ∙ ap (λ (s : Sheet). length (table s)) (sym c.loop.invariant.sheet)
+places c = c.from-end.ensures ∙ c.count.ensures.counts ∙ ap (λ (s : Sheet). length (table s)) (sym c.loop.invariant.sheet)
 
 left : (c : After-judge) → count_ones c.loop.self.placed.0 < c.from-end.result
 left c = omega (arith, c.loop.invariant.counts, c.loop-test.true)
@@ -49,7 +49,7 @@ loop-preserved c =
 -- after the last place
 end : (c : After-order-1) → First (table c.loop.self.sheet) (laid c.loop.self) (take (length (table c.loop.self.sheet)) c.loop.self.order)
 end c =
-    let places : c.from-end.result ≡ length (table c.loop.self.sheet) = c.from-end.ensures ∙ c.count.ensures ∙ ap (λ (s : Sheet). length (table s)) (sym c.loop.invariant.sheet) in
+    let places : c.from-end.result ≡ length (table c.loop.self.sheet) = c.from-end.ensures ∙ c.count.ensures.counts ∙ ap (λ (s : Sheet). length (table s)) (sym c.loop.invariant.sheet) in
     whole c.loop.self _ places (omega (arith, c.loop.invariant.counts, c.loop-test.false))
 
 pub new-requires : goal.new-requires
@@ -62,3 +62,6 @@ returns-clause-first c =
     c.loop.invariant.first (order c.new.result)
     (subst₂ (λ (s : Sheet) (o : List ℕ). First (table c.args.self.sheet) (laid x) (take (length (table s)) o)) (sym c.new.ensures.sheet) (sym c.new.ensures.order)
     (subst (λ (s : Sheet). First (table s) (laid x) (take (length (table x.sheet)) x.order)) c.loop.invariant.sheet (end d)))
+
+pub returns-clause-lowest : goal.returns-clause-lowest
+returns-clause-lowest c = first-lowest _ _ _ (returns-clause-first c)

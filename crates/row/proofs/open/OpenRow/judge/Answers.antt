@@ -32,10 +32,10 @@ pub returns-then-not-fits_after : goal.returns-then-not-fits_after
 returns-then-not-fits_after c =
     let d = (goal.at.returns-then-not-fits_after c).After-contains in
     held-no-order c.args.self.now c.args.t (lt d) _ (is d) (sym c.contains.ensures ∙ c.if-contains.false) (c.within.ensures.0 c.if-not-within.false) _ c.with.ensures.value
-    (λ f. both_ways _ c.if-not-fits_after.true (c.fits_after.ensures.1 f))
+    (λ f. both_ways _ c.if-not-fits_after.true (c.fits_after.ensures.fits.1 f))
 
 pub returns : goal.returns
 returns c =
     let d = (goal.at.returns c).After-contains in
     held-accepted c.args.self.now c.args.t (lt d) _ (is d) (sym c.contains.ensures ∙ c.if-contains.false) (c.within.ensures.0 c.if-not-within.false) _ c.with.ensures.value
-    (c.fits_after.ensures.0 c.if-not-fits_after.false)
+    (c.fits_after.ensures.fits.0 c.if-not-fits_after.false)
