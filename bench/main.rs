@@ -1,6 +1,11 @@
-// The planner of the static library beside the same planner in plain Rust: equal answers, instructions and times.
+// The planner of the static library, and the program `order`, beside the same in plain Rust: equal answers, instructions and times.
+mod plain;
+mod sheets;
+
+use sheets::{SHEETS, kind, line, sample, samples};
 use std::hint::black_box;
-use std::process::ExitCode;
+use std::io::{self, Read, Write};
+use std::process::{Command, ExitCode, Stdio};
 use std::time::Instant;
 
 #[link(name = "planlib", kind = "static")]
@@ -16,321 +21,19 @@ unsafe extern "C" {
     ) -> u32;
 }
 
-// What both are given: the text of a sheet file. The first byte of a line's frame is one of these.
-mod kind {
-    pub const TASK: u8 = 1;
-    pub const LINK: u8 = 2;
-    pub const HARD: u8 = 3;
-    pub const RAMP: u8 = 4;
-    pub const SOFT: u8 = 5;
-    pub const STEP: u8 = 6;
-    pub const WEIGHT: u8 = 7;
-}
-
-// The plain Rust program.
-mod plain {
-    use super::kind;
-
-    const TOP: u32 = 1_000_000;
-    const REFUSED: u32 = 0xFFFF_FF00;
-
-    #[derive(Clone, Copy, PartialEq, Eq)]
-    enum Kind {
-        Plain,
-        Soft,
-        Hard(u32),
-    }
-
-    struct Task {
-        min: u16,
-        max: u16,
-        kind: Kind,
-        before: u16,
-    }
-
-    struct Ramp {
-        peak: u32,
-        knee: u32,
-        foot: u32,
-    }
-
-    struct Step {
-        until: u32,
-        worth: u32,
-    }
-
-    struct Curve {
-        ramp: Option<Ramp>,
-        steps: Vec<Step>,
-        weight: u32,
-    }
-
-    pub struct Sheet {
-        tasks: Vec<Task>,
-    }
-
-    pub struct Book {
-        curves: Vec<Curve>,
-    }
-
-    #[derive(Clone, Copy)]
-    struct Loads {
-        expected: u32,
-        maximum: u32,
-    }
-
-    pub enum Refusal {
-        NoOrder = 10,
-        Memory = 14,
-    }
-
-    impl Task {
-        fn expected(&self) -> u32 {
-            (u32::from(self.min) + u32::from(self.max)) / 2
+// The line that the program `order` prints for a file without a fault.
+fn order_line(file: &str) -> String {
+    let mut text = String::new();
+    match plain::answer(file) {
+        Ok((order, total)) => {
+            let mut fields = vec![(order.len() as u32, 1)];
+            fields.extend(order.iter().map(|t| (u32::from(*t), 1)));
+            fields.push((total, 3));
+            line(&mut text, 0x20, &fields);
         }
+        Err(cause) => line(&mut text, 0x2F, &[(5, 1), (cause, 1), (0, 2)]),
     }
-
-    impl Ramp {
-        fn at(&self, at: u32) -> u32 {
-            if at <= self.knee {
-                self.peak
-            } else if at >= self.foot {
-                0
-            } else {
-                let left = u64::from(self.foot - at);
-                let fall = u64::from(self.foot - self.knee);
-                (u64::from(self.peak) * left / fall) as u32
-            }
-        }
-    }
-
-    impl Curve {
-        fn at(&self, at: u32) -> u32 {
-            let ramp = self.ramp.as_ref().map_or(0, |ramp| ramp.at(at));
-            let step = self.steps.iter().find(|step| at <= step.until);
-            let sum = (ramp + step.map_or(0, |step| step.worth)).min(TOP);
-            (self.weight * sum).min(TOP)
-        }
-    }
-
-    impl Book {
-        fn worth(&self, task: usize, at: u32) -> u32 {
-            self.curves[task].at(at)
-        }
-    }
-
-    impl Sheet {
-        fn loads(&self, set: usize) -> Loads {
-            let mut loads = Loads {
-                expected: 0,
-                maximum: 0,
-            };
-            let mut left = set;
-            while left != 0 {
-                let task = &self.tasks[left.trailing_zeros() as usize];
-                loads.expected += task.expected();
-                loads.maximum += u32::from(task.max);
-                left &= left - 1;
-            }
-            loads
-        }
-
-        // One more than the most that is left to earn where the task comes next; 0 where it can't.
-        fn next(&self, book: &Book, cells: &[u32], set: usize, loads: Loads, t: usize) -> u32 {
-            let task = &self.tasks[t];
-            let before = usize::from(task.before);
-            if set >> t & 1 == 1 || before & set != before {
-                return 0;
-            }
-            if let Kind::Hard(deadline) = task.kind
-                && loads.maximum + u32::from(task.max) > deadline
-            {
-                return 0;
-            }
-            let rest = cells[set | 1 << t];
-            if rest == 0 {
-                return 0;
-            }
-            if task.kind == Kind::Soft {
-                rest + book.worth(t, loads.expected + task.expected())
-            } else {
-                rest
-            }
-        }
-
-        fn plan(&self, book: &Book, cells: &mut [u32], order: &mut [u8]) -> Result<u32, Refusal> {
-            let count = self.tasks.len();
-            let full = (1 << count) - 1;
-            if cells.len() <= full || order.len() < count {
-                return Err(Refusal::Memory);
-            }
-            cells[full] = 1;
-            for set in (0..full).rev() {
-                let loads = self.loads(set);
-                let mut best = 0;
-                for t in 0..count {
-                    best = best.max(self.next(book, cells, set, loads, t));
-                }
-                cells[set] = best;
-            }
-            if cells[0] == 0 {
-                return Err(Refusal::NoOrder);
-            }
-            let mut set = 0;
-            for place in &mut order[..count] {
-                let loads = self.loads(set);
-                let goal = cells[set];
-                let first = (0..count).find(|&t| self.next(book, cells, set, loads, t) == goal);
-                let t = first.expect("a cell above 0 is reached by some task");
-                *place = t as u8;
-                set |= 1 << t;
-            }
-            Ok(cells[0] - 1)
-        }
-    }
-
-    // The bytes of a line, which has no note.
-    fn bytes(line: &str) -> Vec<u8> {
-        let byte = |i| u8::from_str_radix(&line[i..i + 2], 16).expect("a line is pairs of digits");
-        (0..line.len()).step_by(2).map(byte).collect()
-    }
-
-    fn three(a: u8, b: u8, c: u8) -> u32 {
-        u32::from_be_bytes([0, a, b, c])
-    }
-
-    // The files of the bench have no fault: only the library tests them.
-    #[inline(never)]
-    pub fn make(file: &str) -> (Sheet, Book) {
-        let mut sheet = Sheet { tasks: Vec::new() };
-        let mut book = Book { curves: Vec::new() };
-        for line in file.lines() {
-            match bytes(line)[..] {
-                [kind::TASK, a, b, c, d, _] => {
-                    sheet.tasks.push(Task {
-                        min: u16::from_be_bytes([a, b]),
-                        max: u16::from_be_bytes([c, d]),
-                        kind: Kind::Plain,
-                        before: 0,
-                    });
-                    book.curves.push(Curve {
-                        ramp: None,
-                        steps: Vec::new(),
-                        weight: 1,
-                    });
-                }
-                [kind::LINK, a, b, _] => sheet.tasks[usize::from(b)].before |= 1 << a,
-                [kind::HARD, t, a, b, c, _] => {
-                    sheet.tasks[usize::from(t)].kind = Kind::Hard(three(a, b, c));
-                }
-                [kind::SOFT, t, _] => sheet.tasks[usize::from(t)].kind = Kind::Soft,
-                [kind::RAMP, t, a, b, c, d, e, f, g, h, i, _] => {
-                    book.curves[usize::from(t)].ramp = Some(Ramp {
-                        peak: three(a, b, c),
-                        knee: three(d, e, f),
-                        foot: three(g, h, i),
-                    });
-                }
-                [kind::STEP, t, a, b, c, d, e, f, _] => {
-                    book.curves[usize::from(t)].steps.push(Step {
-                        until: three(a, b, c),
-                        worth: three(d, e, f),
-                    });
-                }
-                [kind::WEIGHT, t, weight, _] => {
-                    book.curves[usize::from(t)].weight = u32::from(weight);
-                }
-                _ => {}
-            }
-        }
-        (sheet, book)
-    }
-
-    #[inline(never)]
-    pub fn plan(file: &str, cells: &mut [u32], order: &mut [u8]) -> u32 {
-        let (sheet, book) = make(file);
-        match sheet.plan(&book, cells, order) {
-            Ok(total) => total,
-            Err(refusal) => REFUSED + refusal as u32,
-        }
-    }
-}
-
-// A small generator of numbers, the same on every run.
-struct Numbers(u64);
-
-impl Numbers {
-    // From `low` to `high`, both included.
-    fn between(&mut self, low: u32, high: u32) -> u32 {
-        self.0 = self
-            .0
-            .wrapping_mul(6364136223846793005)
-            .wrapping_add(1442695040888963407);
-        low + ((self.0 >> 33) % u64::from(high - low + 1)) as u32
-    }
-}
-
-// Writes a line: the kind of its frame, the fields, each with the count of its bytes, and the byte that makes the sum of all 0
-// modulo 256.
-fn line(file: &mut String, kind: u8, fields: &[(u32, usize)]) {
-    let mut frame = vec![kind];
-    for (field, count) in fields {
-        frame.extend(&field.to_be_bytes()[4 - count..]);
-    }
-    let sum = frame.iter().fold(0_u8, |sum, byte| sum.wrapping_add(*byte));
-    frame.push(sum.wrapping_neg());
-    file.extend(frame.iter().map(|byte| format!("{byte:02X}")));
-    file.push('\n');
-}
-
-// The file of a sheet of so many tasks and its book: of the pairs of tasks one in six is linked, every fourth task is hard with a
-// deadline that the order by number meets, every eighth is plain, and the others are soft, each with a ramp and a weight, most
-// with steps.
-fn sample(count: u32, seed: u64) -> String {
-    let mut numbers = Numbers(seed);
-    let mut file = String::new();
-    let mut line = |kind, fields: &[(u32, usize)]| line(&mut file, kind, fields);
-    let mut end = 0;
-    let mut ends = Vec::new();
-    for _ in 0..count {
-        let min = numbers.between(20, 400);
-        let max = min + numbers.between(0, 200);
-        end += max;
-        ends.push(end);
-        line(kind::TASK, &[(min, 2), (max, 2)]);
-    }
-    for b in 0..count {
-        for a in 0..b {
-            if numbers.between(1, 6) == 1 {
-                line(kind::LINK, &[(a, 1), (b, 1)]);
-            }
-        }
-    }
-    for t in 0..count {
-        match t % 8 {
-            3 | 7 => {
-                let slack = numbers.between(0, end / 2);
-                line(kind::HARD, &[(t, 1), (ends[t as usize] + slack, 3)]);
-            }
-            5 => {}
-            _ => {
-                line(kind::SOFT, &[(t, 1)]);
-                let knee = numbers.between(0, end / 2);
-                let foot = knee + numbers.between(1, end);
-                let peak = numbers.between(1000, 60000);
-                line(kind::RAMP, &[(t, 1), (peak, 3), (knee, 3), (foot, 3)]);
-                let mut until = 0;
-                let mut worth = numbers.between(1000, 30000);
-                for _ in 0..numbers.between(0, 3) {
-                    until += numbers.between(1, end / 2);
-                    line(kind::STEP, &[(t, 1), (until, 3), (worth, 3)]);
-                    worth -= numbers.between(0, worth / 2);
-                }
-                line(kind::WEIGHT, &[(t, 1), (numbers.between(1, 16), 1)]);
-            }
-        }
-    }
-    file
+    text
 }
 
 struct Memory {
@@ -417,15 +120,6 @@ fn times(files: &[String], memory: &mut Memory, rounds: u32) -> [f64; 2] {
     least
 }
 
-// How many sheets of a size are measured.
-const SHEETS: u32 = 8;
-
-fn samples(count: u32) -> Vec<String> {
-    (0..SHEETS)
-        .map(|seed| sample(count, u64::from(seed)))
-        .collect()
-}
-
 // Whether both answer the same on each of the sheets, and where a deadline leaves no order.
 fn check(count: u32) -> bool {
     samples(count).into_iter().all(|mut file| {
@@ -435,7 +129,49 @@ fn check(count: u32) -> bool {
     })
 }
 
-fn main() -> ExitCode {
+// What the program prints for the file, and how many microseconds it ran.
+fn run(program: &str, words: &[&str], file: &str) -> io::Result<(Vec<u8>, f64)> {
+    let start = Instant::now();
+    let mut child = Command::new(program)
+        .args(words)
+        .stdin(Stdio::piped())
+        .stdout(Stdio::piped())
+        .spawn()?;
+    if let Some(mut input) = child.stdin.take() {
+        input.write_all(file.as_bytes())?;
+    }
+    let output = child.wait_with_output()?;
+    Ok((output.stdout, start.elapsed().as_secs_f64() * 1e6))
+}
+
+// The microseconds of a run of `order`, which is the program of this name, and of the same in Rust, by turns, and the shortest of
+// each for each file. None where they print different lines.
+fn order_times(order: &str, files: &[String], tries: u32) -> io::Result<Option<[f64; 2]>> {
+    let this = std::env::current_exe()?;
+    let this = this.to_string_lossy();
+    let mut sums = [0.0; 2];
+    for file in files {
+        let mut least = [f64::INFINITY; 2];
+        for _ in 0..tries {
+            let (ours, took) = run(order, &[], file)?;
+            let (rust, other) = run(&this, &["order"], file)?;
+            if ours != rust {
+                return Ok(None);
+            }
+            least = [least[0].min(took), least[1].min(other)];
+        }
+        sums = [sums[0] + least[0], sums[1] + least[1]];
+    }
+    Ok(Some(sums.map(|sum| sum / f64::from(SHEETS))))
+}
+
+fn read_input() -> io::Result<String> {
+    let mut file = String::new();
+    io::stdin().read_to_string(&mut file)?;
+    Ok(file)
+}
+
+fn main() -> io::Result<ExitCode> {
     let words: Vec<String> = std::env::args().skip(1).collect();
     let number = |k: usize| {
         words
@@ -443,6 +179,7 @@ fn main() -> ExitCode {
             .and_then(|word| word.parse::<u32>().ok())
             .unwrap_or(0)
     };
+    // How many tasks; how many rounds or tries, or a seed.
     let (count, rounds) = (number(1), number(2));
     let files = samples(count);
     let mut memory = Memory::of(count);
@@ -450,7 +187,7 @@ fn main() -> ExitCode {
         Some("check") => {
             if !(1..=16).all(check) {
                 println!("the answers differ");
-                return ExitCode::FAILURE;
+                return Ok(ExitCode::FAILURE);
             }
             println!("all answers are equal");
         }
@@ -463,10 +200,21 @@ fn main() -> ExitCode {
             let [ours, rust] = times(&files, &mut memory, rounds);
             println!("{ours:.1} {rust:.1} {:.2}", ours / rust);
         }
+        Some("order") => print!("{}", order_line(&read_input()?)),
+        Some("file") => print!("{}", sample(count, u64::from(rounds))),
+        Some("time-order") => {
+            let order = words.get(3).map_or("", String::as_str);
+            let Some([ours, rust]) = order_times(order, &files, rounds)? else {
+                println!("the lines differ");
+                return Ok(ExitCode::FAILURE);
+            };
+            println!("{ours:.0} {rust:.0} {:.2}", ours / rust);
+        }
         _ => {
             println!("check | sheets | ours, rust, make-ours, make-rust or time TASKS ROUNDS");
-            return ExitCode::FAILURE;
+            println!("order | file TASKS SEED | time-order TASKS TRIES PROGRAM");
+            return Ok(ExitCode::FAILURE);
         }
     }
-    ExitCode::SUCCESS
+    Ok(ExitCode::SUCCESS)
 }
