@@ -6,7 +6,11 @@ use plan::plan;
 use sheet::Sheet;
 use std::io;
 
+// As many as `order` has: enough for 14 tasks.
 const CELLS: usize = 16_384;
+
+// No sheet has more tasks.
+const PLACES: usize = 16;
 
 fn print_cells(rt: &impl Print, cells: &[u32]) -> io::Result<()> {
     for (set, value) in cells.iter().enumerate() {
@@ -17,7 +21,7 @@ fn print_cells(rt: &impl Print, cells: &[u32]) -> io::Result<()> {
 
 pub fn print_plan(rt: &impl Print, sheet: &Sheet, book: &StandardBook) -> io::Result<()> {
     let mut cells = [0; CELLS];
-    let mut order = [0; 16];
+    let mut order = [0; PLACES];
     let count = sheet.count();
     match plan(sheet, book, &mut cells, &mut order) {
         Ok(total) => {
