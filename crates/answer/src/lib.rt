@@ -2,7 +2,7 @@
 #![tactic(auto)]
 
 ghost use Rattle.std.specs.Prelude.{◌≡◌, ◌≤◌, ℕ, IfErr, IfOk, IsOk, drop, length, take};
-ghost use Rattle.answer.specs.Answers.{Answered, Answers, Shows, fault_bytes, most, order_bytes};
+ghost use Rattle.answer.specs.Answers.{Answered, Answers, AnswersAll, fault_bytes, most, order_bytes};
 ghost use Rattle.file.specs.Faults.{figures};
 ghost use Rattle.file.specs.Frames.{bytes_line};
 ghost use Rattle.file.specs.Loads.{made};
@@ -14,6 +14,12 @@ use common::Refusal;
 use file::{Fault, load_new, write_line};
 use plan::plan;
 use sheet::Sheet;
+
+mod stream;
+#[cfg(test)]
+mod tests;
+
+pub use stream::{Failure, answer_stream};
 
 // The first byte of an answer.
 mod kind {
@@ -54,10 +60,10 @@ fn frame_order(bytes: &mut [u8; BYTES], count: usize, total: u32) -> usize
     HEAD + count + 3
 }
 
-// Writes the bytes that show the best order and its total, and answers how many they are; refused as `plan` is.
+// Writes the bytes that answer each file that makes these two, and answers how many they are; refused as `plan` is.
 fn plan_bytes(sheet: &Sheet, book: &StandardBook, bytes: &mut [u8; BYTES]) -> Result<usize, Refusal>
-    ensures shows { IfOk result (λ len. (len ≤ BYTES) × Shows (made sheet.now book.now) (take len bytes.new)) }
-    ensures stops { IfErr result (λ e. Shows (made sheet.now book.now) (fault_bytes (figures (Plan e)))) }
+    ensures shows { IfOk result (λ len. (len ≤ BYTES) × AnswersAll (made sheet.now book.now) (take len bytes.new)) }
+    ensures stops { IfErr result (λ e. AnswersAll (made sheet.now book.now) (fault_bytes (figures (Plan e)))) }
 {
     let mut cells = [0; CELLS];
     let total = plan(sheet, book, &mut cells, &mut bytes[HEAD..HEAD + MOST])?;
@@ -88,7 +94,8 @@ fn fault_bytes(fault: Fault) -> [u8; 5]
 }
 
 // Writes the line that answers the file to the front of the memory, and answers its length; nothing behind it is written. Where
-// there is no room for all of it, nothing is; `LINE` bytes are room for any line, and an order of 14 tasks takes all of them.
+// there is no room for all of it, nothing is; `LINE` bytes are room for any line, and an order of 14 tasks takes all of them. Of a
+// file without a fault, the line tells what `history::replay` answers for the history that loads this file and no more.
 pub fn answer(file: &[u8], out: &mut [u8]) -> Result<usize, Refusal>
     ensures answers { Answered file.now out.old out.new result }
     ensures room { LINE ≤ length out.old → IsOk result }

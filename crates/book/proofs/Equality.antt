@@ -7,9 +7,11 @@ use Rattle.std.proofs.lemmas.Option.{same_Some}
 use Rattle.std.specs.Option.{option_eq}
 use lib.Pointwise.{pointwise, pointwise_decides, bytes_decides}
 use denote.Struct.Record.{values_one}
-use Rattle.book.specs.Standard.{Alike, contents}
+use Rattle.book.specs.Standard.{Alike, Contents, contents}
 use Rattle.book.specs.Lists.{steps_in, used}
+use Rattle.book.specs.Ramps.{ramp_of}
 use Rattle.book.specs.Steps.{blank, steps_of}
+use Rattle.book.specs.Weights.{weight_of}
 use Rattle.book.specs.declared.ramp.RampBook.{RampBook}
 use Rattle.book.specs.declared.standard.StandardBook.{StandardBook}
 use Rattle.book.specs.declared.step.StepBook.{StepBook}
@@ -40,7 +42,7 @@ same-step-books : (x y : StepBook) → x.steps ≡ y.steps → x ≡ y
 same-step-books x y e = values_one step-book.struct (step-book.the_propositions steps.the_row.coded) x y (ap (λ l. (l, tt)) e)
 
 same-weights : (x y : Weights) → x.list ≡ y.list → x ≡ y
-same-weights x y e = values_one weights.struct weights.the_propositions x y (ap (λ l. (l, tt)) e)
+same-weights x y e = values_one weights.struct weights.the_propositions x y (cc)
 
 same-books : (x y : StandardBook) → x.layers.inner.first ≡ y.layers.inner.first → x.layers.inner.second ≡ y.layers.inner.second → x.layers.weights ≡ y.layers.weights → x ≡ y
 same-books x y r s w = λ i. record { layers = record { inner = record { first = r i; second = s i }; weights = w i } }
@@ -107,6 +109,10 @@ alike-same x y a =
 
 same-alike : (x y : StandardBook) → x ≡ y → Alike (contents x) (contents y)
 same-alike x y e = subst (λ (z : StandardBook). Alike (contents x) (contents z)) e (record { ramps = λ k _. refl; steps = λ k _. refl; weights = λ k _. refl })
+
+pub same_contents : (x y : StandardBook) → contents x ≡ contents y → x ≡ y
+same_contents x y e =
+    alike-same x y (record { ramps = λ k _. ap (λ (c : Contents). ramp_of c.ramps k) e; steps = λ k _. ap (λ (c : Contents). steps_of c.steps k) e; weights = λ k _. ap (λ (c : Contents). weight_of c.weights k) e })
 
 pub alike-decide : (x y : StandardBook) → Decides (books_eq x y) (Alike (contents x) (contents y))
 alike-decide x y = Decides-like _ (same-alike x y) (alike-same x y) (books-decide x y)

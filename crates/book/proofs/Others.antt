@@ -3,9 +3,11 @@ use Rattle.std.proofs.Common.{◌≡◌, ◌≢◌, refl, [], ℕ, arith, None}
 use Rattle.std.proofs.lemmas.Grind.{common_steps}
 use Rattle.std.proofs.lemmas.List.{get_or-set_other}
 use Rattle.book.specs.Ramps.{ramp_of}
-use Rattle.book.specs.Standard.{Call, Contents, Others_stay, about, changed, drop_steps, ramp, step, weight, worth_of}
+use Rattle.book.specs.Standard.{Contents, Others_stay, about, changed, worth_of}
 use Rattle.book.specs.Steps.{steps_of}
 use Rattle.book.specs.Weights.{weight_of}
+use Rattle.book.specs.declared.call.Call.{Call}
+use Rattle.book.specs.declared.call.Call.TheVariants.{Ramp as ramp, Step as step, DropSteps as drop_steps, Weight as weight}
 
 -- a task with the same ramp, the same steps and the same weight is worth the same
 same-worth : (c d : Contents) (task at : ℕ) → ramp_of c.ramps task ≡ ramp_of d.ramps task → steps_of c.steps task ≡ steps_of d.steps task →

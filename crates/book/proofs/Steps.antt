@@ -1,11 +1,12 @@
 -- Steps as the code reads and writes them. Assumes nothing.
-use Rattle.std.proofs.Common.{◌≡◌, refl, sym, ap, ap₂, ◌∙◌, true, cond, ◌&&◌, List, [], ◌∷◌, ◌++◌, ℕ, zero, suc, ◌-◌, ◌≤◌, ◌<◌, max, arith, leb, length, get_or, set, slice_get, map}
+use Rattle.std.proofs.Common.{◌≡◌, refl, sym, ap, ap₂, ◌∙◌, true, cond, ◌&&◌, List, [], ◌∷◌, ◌++◌, ℕ, zero, suc, ◌-◌, ◌≤◌, ◌<◌, max, arith, All, leb, length, get_or, set, slice_get, map}
 use Rattle.std.specs.Option.{option_map_or}
 use Rattle.std.proofs.lemmas.Grind.{common_steps}
+use Rattle.std.proofs.lemmas.List.Elements.{All-nil, All-cons, All-head}
 use Rattle.std.proofs.lemmas.List.{get_or-map, length-map, map-set}
 use Rattle.common.specs.Refusals.{Answered}
 use Rattle.book.specs.Lists.{steps_in, used}
-use Rattle.book.specs.Steps.{Dropped, Stepped, a_step, descends, drop_rows, step_rows, in_limits, longer, step_added, step_meaning, stepped, steps_dropped, steps_of, steps_worth}
+use Rattle.book.specs.Steps.{Dropped, StepFits, Stepped, a_step, descends, drop_rows, step_rows, in_limits, longer, step_added, step_meaning, stepped, steps_dropped, steps_of, steps_worth}
 use Rattle.book.specs.declared.step.Step.{Step}
 use Rattle.book.specs.declared.step.StepBook.{StepBook}
 use Rattle.book.specs.declared.step.Steps.{Steps}
@@ -43,6 +44,38 @@ steps-more (s ∷ ss) x at ok =
     let least = last-least s ss x ok in
     grind (arith, common_steps)
 
+-- s is before x, and worth no less
+abbrev pub Before : Step → Step → Type 0
+Before x s = (s.until < x.until) × (x.worth ≤ s.worth)
+
+all-before : (ss : List Step) (x : Step) → stepped (ss ++ x ∷ []) ≡ true → All (Before x) ss
+unfolding stepped
+all-before [] x ok = All-nil (Before x)
+all-before (s ∷ []) x ok =
+    let last : Before x s = grind (arith, common_steps) in
+    All-cons (Before x) s [] last (All-nil (Before x))
+all-before (s ∷ y ∷ ss) x ok =
+    let more = all-before (y ∷ ss) x (parts s (y ∷ ss ++ x ∷ []) ok).1 in
+    let next = All-head (Before x) y ss more in
+    let this : Before x s = grind (arith, common_steps) in
+    All-cons (Before x) s (y ∷ ss) this more
+
+last-within : (ss : List Step) (x : Step) → stepped (ss ++ x ∷ []) ≡ true → in_limits x ≡ true
+last-within [] x ok = (parts x [] ok).0
+last-within (s ∷ ss) x ok = last-within ss x (parts s (ss ++ x ∷ []) ok).1
+
+pub fits-within : (all : List (List Step)) (k until worth : ℕ) → k < 16 → stepped (longer all k until worth) ≡ true → length (steps_of all k) < 6 → StepFits all k until worth
+fits-within all k until worth known fits room =
+    let x = a_step until worth in
+    let low = last-within (steps_of all k) x fits in
+    record {
+      known = known;
+      in_time = grind (arith, common_steps);
+      low = grind (arith, common_steps);
+      behind = all-before (steps_of all k) x fits;
+      room = room;
+    }
+
 -- ---- the calls that add and drop steps of task t, which stand at k
 
 module _ (x : StepBook) (k t : ℕ) (place : (k ≡ t) × (t < 16)) where
@@ -74,6 +107,9 @@ module _ (x : StepBook) (all : List (List Step)) (t : ℕ) where
       let e = ap (λ ys. step_meaning ys task at) a.leaves in
       let more = steps-more (steps_of (steps_in x) t) (a_step until worth) at fits in
       grind (arith, common_steps)
+
+  pub stepped-within : (until worth : ℕ) → Answered (step_rows (steps_in x) t until worth) (step_added (steps_in x) t until worth) (steps_in x) all 0 → StepFits (steps_in x) t until worth
+  stepped-within until worth a = fits-within (steps_in x) t until worth (grind (arith, common_steps, a.says)) (grind (arith, common_steps, a.says)) (grind (arith, common_steps, a.says))
 
 -- ---- the steps of each task
 

@@ -7,5 +7,6 @@ pub mod Standard
 pub mod RampLaws
 pub mod StepLaws
 pub mod WorthLaws
+pub mod StandardLaws
 pub mod Keenest
 pub mod Texts

@@ -1,5 +1,6 @@
 -- What books hold, as lists. Assumes nothing.
 use Rattle.std.specs.Prelude.{List, ℕ, Option, map, take}
+use Rattle.book.specs.declared.layers.Weighted.{Weighted}
 use Rattle.book.specs.declared.ramp.Ramp.{Ramp}
 use Rattle.book.specs.declared.ramp.RampBook.{RampBook}
 use Rattle.book.specs.declared.step.Step.{Step}
@@ -19,6 +20,10 @@ used own = take own.len own.list
 abbrev pub steps_in : StepBook → List (List Step)
 steps_in x = map used x.steps
 
--- the weight of each task
-abbrev pub weights_in : Weights → List ℕ
-weights_in x = x.list
+-- the weights themselves
+abbrev pub weight_list : Weights → List ℕ
+weight_list x = x.list
+
+-- the weight of each task, over any book
+abbrev pub weights_in : {B : Type 0} → Weighted B → List ℕ
+weights_in x = weight_list x.weights

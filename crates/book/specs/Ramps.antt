@@ -3,7 +3,8 @@
 --     sloped peak knee foot      the numbers keep the rule of a ramp
 --     ramp_of rs k               the ramp of task k; absent past the end
 --     ramp_meaning rs            what the ramps mean
-use Rattle.std.specs.Prelude.{Bool, true, not, ◌&&◌, List, [], ◌∷◌, ◌≡◌, ℕ, ◌-◌, ◌*◌, ◌/◌, nat_le, nat_lt, slice_index_or, set, replicate, Option, Some, None, if◌then◌else◌, ◌==◌}
+--     RampFits k peak knee foot  what an accepted call that sets a ramp keeps
+use Rattle.std.specs.Prelude.{Bool, true, not, ◌&&◌, List, [], ◌∷◌, ◌≡◌, ℕ, ◌-◌, ◌*◌, ◌/◌, ◌≤◌, ◌<◌, nat_le, nat_lt, slice_index_or, set, replicate, Option, Some, None, if◌then◌else◌, ◌==◌}
 use Rattle.book.specs.Worths.{Meaning, top, latest}
 use Rattle.book.specs.declared.ramp.Ramp.{Ramp}
 use Rattle.common.specs.Refusals.{Rows, number}
@@ -38,6 +39,13 @@ no_ramps = replicate 16 None
 -- the refusals that setting a ramp may get
 abbrev pub ramp_rows : (k peak knee foot : ℕ) → Rows
 ramp_rows k peak knee foot = (nat_le 16 k, number UnknownTask) ∷ (not (sloped peak knee foot), number BookRule) ∷ []
+
+-- the call that sets the ramp of task k is accepted only within these limits
+pub record RampFits (k peak knee foot : ℕ) : Type 0 where
+  pub known : k < 16
+  pub low : peak ≤ top
+  pub down : knee < foot
+  pub in_time : foot ≤ latest
 
 -- the ramps with a new one for task k
 abbrev pub ramped : List (Option Ramp) → (k peak knee foot : ℕ) → List (Option Ramp)

@@ -3,7 +3,8 @@
 --     stepped ss           the steps keep their rule
 --     steps_of all k       the steps of task k; none past the end
 --     step_meaning all     what the steps of all tasks mean
-use Rattle.std.specs.Prelude.{Bool, true, not, ◌&&◌, List, [], ◌∷◌, ◌++◌, ◌≡◌, ℕ, max, nat_le, nat_lt, length, slice_index_or, set, replicate, find, if◌then◌else◌, ◌==◌}
+--     StepFits all k until worth    what an accepted call that adds a step keeps
+use Rattle.std.specs.Prelude.{Bool, true, not, ◌&&◌, List, [], ◌∷◌, ◌++◌, ◌≡◌, ℕ, ◌≤◌, ◌<◌, max, nat_le, nat_lt, length, slice_index_or, set, replicate, find, if◌then◌else◌, ◌==◌, All}
 use Rattle.book.specs.Worths.{Meaning, top, latest}
 use Rattle.book.specs.declared.step.Step.{Step}
 use Rattle.std.specs.Option.{option_map_or}
@@ -51,6 +52,15 @@ step_rows all k until worth =
     (nat_le 16 k, number UnknownTask) ∷ (not (stepped (longer all k until worth)), number BookRule)
     ∷ (nat_le 6 (length (steps_of all k)), number StepsFull) ∷ []
 
+-- the call that adds a step for task k is accepted only within these limits: it reaches further than each step that is there, and
+-- is worth no more
+pub record StepFits (all : List (List Step)) (k until worth : ℕ) : Type 0 where
+  pub known : k < 16
+  pub in_time : until ≤ latest
+  pub low : worth ≤ top
+  pub behind : All (λ s. (s.until < until) × (worth ≤ s.worth)) (steps_of all k)
+  pub room : length (steps_of all k) < 6
+
 abbrev pub step_added : List (List Step) → (k until worth : ℕ) → List (List Step)
 step_added all k until worth = set all k (longer all k until worth)
 
@@ -61,13 +71,15 @@ drop_rows k = (nat_le 16 k, number UnknownTask) ∷ []
 abbrev pub steps_dropped : List (List Step) → ℕ → List (List Step)
 steps_dropped all k = set all k []
 
--- the call that answers n leaves the steps all': where it is accepted, task k is worth the greater of what it was and of what
--- the step is worth up to its time; every other worth stays
+-- what a task is worth at a time with a step more: the greater of what it was and of what the step is worth up to its until
+abbrev pub raised : (was until worth at : ℕ) → ℕ
+raised was until worth at = max was (if nat_le at until then worth else 0)
+
+-- the call that answers n leaves the steps all': where it is accepted, task k has a step more; every other worth stays
 abbrev pub Stepped : (all all' : List (List Step)) (k until worth n : ℕ) → Type 0
 Stepped all all' k until worth n =
     (task at : ℕ) → step_meaning all' task at ≡
-    (if n == 0 && task == k then max (step_meaning all task at) (if nat_le at until then worth else 0)
-    else step_meaning all task at)
+    (if n == 0 && task == k then raised (step_meaning all task at) until worth at else step_meaning all task at)
 
 -- the call that answers n leaves the steps all': where it is accepted, task k is worth nothing; every other worth stays
 abbrev pub Dropped : (all all' : List (List Step)) (k n : ℕ) → Type 0

@@ -1,6 +1,7 @@
 -- What calls on a book print. Assumes nothing.
 use Rattle.std.specs.Prelude.{List, ℕ, ◌++◌, codes}
-use Rattle.book.specs.Standard.{Call, ramp, step, drop_steps, weight}
+use Rattle.book.specs.declared.call.Call.{Call}
+use Rattle.book.specs.declared.call.Call.TheVariants.{Ramp as ramp, Step as step, DropSteps as drop_steps, Weight as weight}
 use Rattle.common.specs.Texts.{spaced}
 
 abbrev pub call_text : Call → List ℕ

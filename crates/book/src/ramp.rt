@@ -1,9 +1,9 @@
 // A book of ramps.
-ghost use Rattle.std.specs.Prelude.{◌≡◌, true, ℕ, length};
+ghost use Rattle.std.specs.Prelude.{◌≡◌, true, ℕ, length, IfErr, IfOk};
 ghost use Rattle.std.specs.Cmp.Rules.{comparing};
 ghost use Rattle.std.proofs.Common.{rules};
 ghost use Rattle.book.specs.Ramps.{keeps_rule, no_ramps, ramp_meaning, ramp_of, ramp_rows};
-ghost use Rattle.book.specs.Ramps.{ramped, slope, sloped, Ramped};
+ghost use Rattle.book.specs.Ramps.{RampFits, Ramped, ramped, slope, sloped};
 ghost use Rattle.common.specs.Refusals.{Answered, outcome};
 
 use crate::book::{Book, TOP};
@@ -71,6 +71,8 @@ impl RampBook {
         ensures answers { Answered (ramp_rows t peak knee foot) (ramped (ramps_in self.old) t peak knee foot)
             (ramps_in self.old) (ramps_in self.new) (outcome result) }
         ensures means { Ramped (ramps_in self.old) (ramps_in self.new) t peak knee foot (outcome result) }
+        ensures within { IfOk result (λ _. RampFits t peak knee foot) }
+        ensures kept { IfErr result (λ _. self.new ≡ self.old) }
     {
         let k = place(t)?;
         if peak > TOP || knee >= foot || foot > LATEST {
@@ -89,7 +91,9 @@ impl Book for RampBook {
 
     ghost sound = { ramps-sound };
 
-    fn worth(&self, task: u8, at: Expected) -> u32 {
+    fn worth(&self, task: u8, at: Expected) -> u32
+        ensures { result ≡ ramp_meaning (ramps_in self.now) task at.0 }
+    {
         let Some(Some(ramp)) = self.ramps.get(usize::from(task)) else {
             return 0;
         };

@@ -1,13 +1,10 @@
 // The standard book: ramps and steps added, and then weighed.
-ghost use Rattle.std.specs.Prelude.{◌≡◌, ◌≤◌, true};
-ghost use Rattle.book.specs.Standard.{Called, contents, drop_steps, nothing, ramp, step, weight, worth_of};
-ghost use Rattle.book.specs.Lists.{weights_in};
-ghost use Rattle.book.specs.RampLaws.{ramps-sound};
-ghost use Rattle.book.specs.StepLaws.{steps-sound};
-ghost use Rattle.book.specs.Ramps.{keeps_rule, ramp_of};
-ghost use Rattle.book.specs.Steps.{stepped, steps_of};
-ghost use Rattle.book.specs.Weights.{weight_of};
-ghost use Rattle.book.specs.WorthLaws.{added-sound, weighed-sound};
+ghost use Rattle.std.specs.Prelude.{◌≡◌, ◌≤◌, ◌<◌, true, IfErr, IfOk};
+ghost use Rattle.book.specs.Standard.{Called, Means, Within, contents, nothing, worth_of};
+ghost use Rattle.book.specs.StandardLaws.{standard-sound};
+ghost use Rattle.book.specs.Ramps.{RampFits, keeps_rule, ramp_of};
+ghost use Rattle.book.specs.Steps.{StepFits, stepped, steps_of};
+ghost use Rattle.book.specs.Weights.{WeightFits, weight_of};
 ghost use Rattle.common.specs.Refusals.{outcome};
 
 use crate::book::Book;
@@ -59,40 +56,55 @@ impl StandardBook {
         ensures some { 1 ≤ result }
         ensures light { result ≤ 16 }
     {
-        self.layers.weights.of(t)
+        self.layers.weight_of(t)
     }
 
     // Gives the task a ramp, in place of the one that it may have.
     pub fn ramp(&mut self, t: u8, peak: u32, knee: u32, foot: u32) -> Result<(), Refusal>
-        ensures { Called (contents self.old) (contents self.new) (ramp t peak knee foot) (outcome result) }
+        ensures called { Called (contents self.old) (contents self.new) (Call.Ramp t peak knee foot) (outcome result) }
+        ensures means { Means (contents self.old) (contents self.new) (Call.Ramp t peak knee foot) (outcome result) }
+        ensures within { IfOk result (λ _. RampFits t peak knee foot) }
+        ensures kept { IfErr result (λ _. self.new ≡ self.old) }
     {
         self.layers.inner.first.ramp(t, peak, knee, foot)
     }
 
     // Adds a step behind the last one of the task.
     pub fn step(&mut self, t: u8, until: u32, worth: u32) -> Result<(), Refusal>
-        ensures { Called (contents self.old) (contents self.new) (step t until worth) (outcome result) }
+        ensures called { Called (contents self.old) (contents self.new) (Call.Step t until worth) (outcome result) }
+        ensures means { Means (contents self.old) (contents self.new) (Call.Step t until worth) (outcome result) }
+        ensures within { IfOk result (λ _. StepFits (contents self.old).steps t until worth) }
+        ensures kept { IfErr result (λ _. self.new ≡ self.old) }
     {
         self.layers.inner.second.step(t, until, worth)
     }
 
     // Takes all steps of the task away.
     pub fn drop_steps(&mut self, t: u8) -> Result<(), Refusal>
-        ensures { Called (contents self.old) (contents self.new) (drop_steps t) (outcome result) }
+        ensures called { Called (contents self.old) (contents self.new) (Call.DropSteps t) (outcome result) }
+        ensures means { Means (contents self.old) (contents self.new) (Call.DropSteps t) (outcome result) }
+        ensures within { IfOk result (λ _. t < 16) }
+        ensures kept { IfErr result (λ _. self.new ≡ self.old) }
     {
         self.layers.inner.second.drop_steps(t)
     }
 
     // Sets the weight of the task, from 1 to 16.
     pub fn weight(&mut self, t: u8, w: u32) -> Result<(), Refusal>
-        ensures { Called (contents self.old) (contents self.new) (weight t w) (outcome result) }
+        ensures called { Called (contents self.old) (contents self.new) (Call.Weight t w) (outcome result) }
+        ensures means { Means (contents self.old) (contents self.new) (Call.Weight t w) (outcome result) }
+        ensures within { IfOk result (λ _. WeightFits t w) }
+        ensures kept { IfErr result (λ _. self.new ≡ self.old) }
     {
         self.layers.weight(t, w)
     }
 
     // Makes the call.
     pub fn make(&mut self, call: Call) -> Result<(), Refusal>
-        ensures { Called (contents self.old) (contents self.new) call (outcome result) }
+        ensures called { Called (contents self.old) (contents self.new) call (outcome result) }
+        ensures means { Means (contents self.old) (contents self.new) call (outcome result) }
+        ensures within { IfOk result (λ _. Within (contents self.old) call) }
+        ensures kept { IfErr result (λ _. self.new ≡ self.old) }
     {
         match call {
             Call::Ramp(t, peak, knee, foot) => self.ramp(t, peak, knee, foot),
@@ -106,10 +118,11 @@ impl StandardBook {
 impl Book for StandardBook {
     ghost meaning = { λ x. worth_of (contents x) };
 
-    ghost sound = { λ x. weighed-sound (weight_of (weights_in x.layers.weights))
-        (added-sound (ramps-sound x.layers.inner.first) (steps-sound x.layers.inner.second)) };
+    ghost sound = { standard-sound };
 
-    fn worth(&self, task: u8, at: Expected) -> u32 {
+    fn worth(&self, task: u8, at: Expected) -> u32
+        ensures { result ≡ worth_of (contents self.now) task at.0 }
+    {
         self.layers.worth(task, at)
     }
 }

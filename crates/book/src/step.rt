@@ -1,8 +1,8 @@
 // A book of steps.
-ghost use Rattle.std.specs.Prelude.{◌≡◌, true, [], ◌∷◌, ◌++◌, ◌<◌, ◌≤◌, find, length, nat_le, ◌-◌, drop, replicate, take};
+ghost use Rattle.std.specs.Prelude.{◌≡◌, true, [], ◌∷◌, ◌++◌, ◌<◌, ◌≤◌, find, length, nat_le, ◌-◌, drop, replicate, take, IfErr, IfOk};
 ghost use Rattle.std.specs.Cmp.Rules.{comparing};
 ghost use Rattle.std.proofs.Common.{rules};
-ghost use Rattle.book.specs.Steps.{Dropped, Stepped, blank, drop_rows, no_steps};
+ghost use Rattle.book.specs.Steps.{Dropped, StepFits, Stepped, blank, drop_rows, no_steps};
 ghost use Rattle.book.specs.Steps.{step_added, step_meaning, step_rows, stepped, steps_dropped, steps_of, steps_worth};
 ghost use Rattle.common.specs.Refusals.{Answered, outcome};
 
@@ -125,6 +125,8 @@ impl StepBook {
         ensures answers { Answered (step_rows (steps_in self.old) t until worth) (step_added (steps_in self.old) t until worth)
             (steps_in self.old) (steps_in self.new) (outcome result) }
         ensures means { Stepped (steps_in self.old) (steps_in self.new) t until worth (outcome result) }
+        ensures within { IfOk result (λ _. StepFits (steps_in self.old) t until worth) }
+        ensures kept { IfErr result (λ _. self.new ≡ self.old) }
     {
         let k = place(t)?;
         let step = Step { until, worth };
@@ -146,6 +148,8 @@ impl StepBook {
         ensures answers { Answered (drop_rows t) (steps_dropped (steps_in self.old) t)
             (steps_in self.old) (steps_in self.new) (outcome result) }
         ensures means { Dropped (steps_in self.old) (steps_in self.new) t (outcome result) }
+        ensures within { IfOk result (λ _. t < 16) }
+        ensures kept { IfErr result (λ _. self.new ≡ self.old) }
     {
         let k = place(t)?;
         self.steps[k] = Steps::new();
@@ -161,7 +165,9 @@ impl Book for StepBook {
 
     ghost sound = { steps-sound };
 
-    fn worth(&self, task: u8, at: Expected) -> u32 {
+    fn worth(&self, task: u8, at: Expected) -> u32
+        ensures { result ≡ step_meaning (steps_in self.now) task at.0 }
+    {
         self.steps
             .get(usize::from(task))
             .map_or(0, |own| own.at(at))

@@ -1,6 +1,6 @@
 // A weight for each task.
-ghost use Rattle.std.specs.Prelude.{◌≡◌, ℕ, ◌≤◌, length, set};
-ghost use Rattle.book.specs.Weights.{Reweighed, all_one, weight_of, weight_rows};
+ghost use Rattle.std.specs.Prelude.{◌≡◌, ℕ, ◌≤◌, length, set, IfErr, IfOk};
+ghost use Rattle.book.specs.Weights.{Reweighed, WeightFits, all_one, weight_of, weight_rows};
 ghost use Rattle.common.specs.Refusals.{Answered, outcome};
 
 use crate::place::place;
@@ -18,18 +18,18 @@ pub struct Weights {
 }
 
 impl Weights {
-    ghost use Rattle.book.specs.Lists.{weights_in};
+    ghost use Rattle.book.specs.Lists.{weight_list};
 
     // Every weight is 1.
     pub(crate) fn new() -> Weights
-        ensures { weights_in result ≡ all_one }
+        ensures { weight_list result ≡ all_one }
     {
         Weights { list: [1; 16] }
     }
 
     // The weight of the task; 1 for a number above 15.
     pub(crate) fn of(&self, t: u8) -> u32
-        ensures value { result ≡ weight_of (weights_in self.now) t }
+        ensures value { result ≡ weight_of (weight_list self.now) t }
         ensures some { 1 ≤ result }
         ensures light { result ≤ 16 }
     {
@@ -38,9 +38,11 @@ impl Weights {
 
     #[tactic(auto, using(common::proofs::Refusals::fitting))]
     pub(crate) fn put(&mut self, t: u8, weight: u32) -> Result<(), Refusal>
-        ensures answers { Answered (weight_rows t weight) (set (weights_in self.old) t weight)
-            (weights_in self.old) (weights_in self.new) (outcome result) }
-        ensures means { Reweighed (weights_in self.old) (weights_in self.new) t weight (outcome result) }
+        ensures answers { Answered (weight_rows t weight) (set (weight_list self.old) t weight)
+            (weight_list self.old) (weight_list self.new) (outcome result) }
+        ensures means { Reweighed (weight_list self.old) (weight_list self.new) t weight (outcome result) }
+        ensures within { IfOk result (λ _. WeightFits t weight) }
+        ensures kept { IfErr result (λ _. self.new ≡ self.old) }
     {
         let k = place(t)?;
         if !(1..=HEAVIEST).contains(&weight) {

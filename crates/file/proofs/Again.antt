@@ -115,5 +115,5 @@ pub saved_read : (s : Sheet) (x : StandardBook) → SavedReads (table s) (conten
 saved_read s x =
     let t = table s in
     let b = contents x in
-    let fit = frames_fit t s.lasting s.due (few-listed s.table) b x.layers.inner.first.sound (steps_kept x.layers.inner.second.steps) x.layers.weights.light in
+    let fit = frames_fit t s.keeps.lasting s.keeps.due (few-listed s.table) b x.layers.inner.first.sound (steps_kept x.layers.inner.second.steps) x.layers.weights.light in
     ap (λ ps. map reading ps) (pieces-text (frames t b)) ∙ read-lines (frames t b) (recursion_from_All Fits (frames t b) fit)

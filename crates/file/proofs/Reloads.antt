@@ -17,12 +17,13 @@ use Rattle.file.proofs.Lengths.{saved-short}
 use Rattle.file.proofs.Loads.{run-cons, run-none}
 use Rattle.file.proofs.Stopping.{loaded-short}
 use Rattle.file.proofs.TasksGo.{tasks_go}
-use Rattle.file.specs.Again.{SavedLoads}
-use Rattle.file.specs.Faults.{Figures, figures, told}
+use Rattle.file.specs.Again.{LoadsOnly, SavedLoads}
+use Rattle.file.specs.Faults.{figures, told}
 use Rattle.file.specs.declared.fault.Fault.{Fault}
 use Rattle.file.specs.Frames.{Frame}
 use Rattle.file.specs.Loads.{Made, after, and_then, call_of, layer, loaded, made, nothing_made, run, verdict}
 use Rattle.file.specs.Saved.{each, frames, hard_frame, links_from, ramp_frame, saved, soft_frame, step_frames, task_frame, weight_frame, Written}
+use Rattle.file.specs.Stopping.{OneLoad}
 use Rattle.sheet.proofs.Equal.{same-decides, tables-decide}
 use Rattle.sheet.specs.Sheets.{table}
 use Rattle.sheet.specs.Tables.{Table}
@@ -109,6 +110,15 @@ same-table a b e = (same-decides a b _ refl).0 ((tables-decide a b _ refl).1 e)
 pub same-contents : (a b : StandardBook) → contents a ≡ contents b → a ≡ b
 same-contents a b e =
     (books-decide a b).0 ((alike-decide a b).1 (record { ramps = λ k lt. ap (λ (c : Contents). ramp_of c.ramps k) e; steps = λ k lt. ap (λ (c : Contents). steps_of c.steps k) e; weights = λ k lt. ap (λ (c : Contents). weight_of c.weights k) e }))
+
+-- what one file is loaded as
+pub one_load : OneLoad
+one_load file s s' b b' is also =
+    let one : made s b ≡ made s' b' = cc in
+    (same-table s s' (ap (λ (m : Made). m.tasks) one), same-contents b b' (ap (λ (m : Made). m.worths) one))
+
+pub loads_only : (s : Sheet) (x : StandardBook) → LoadsOnly s x
+loads_only s x s' x' is = one_load (saved (table s) (contents x)) s' s x' x is (saved_loads s x)
 
 pub same-made : (s s' : Sheet) (x x' : StandardBook) → made s x ≡ made s' x' → ◌≡◌ {A = Option (Sheet × StandardBook)} (Some (s, x)) (Some (s', x'))
 same-made s s' x x' e = ap₂ (λ a b. Some (a, b)) (same-table s s' (ap (λ (m : Made). m.tasks) e)) (same-contents x x' (ap (λ (m : Made). m.worths) e))

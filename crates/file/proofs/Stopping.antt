@@ -1,13 +1,15 @@
 -- A load goes line by line. Assumes nothing.
-use Rattle.std.proofs.Common.{◌≡◌, refl, sym, ap, subst, ◌∙◌, Bool, true, false, ◌==◌, if◌then◌else◌, List, [], ◌∷◌, ℕ, zero, suc, ◌+◌, ◌-◌, ◌<◌, ◌≤◌, Result, Ok, Err, arith, length, map, nat_lt, slice_index_or, take}
+use Rattle.std.proofs.Common.{◌≡◌, refl, sym, ap, subst, ◌∙◌, ◌⊎◌, inl, inr, Bool, true, false, ◌==◌, if◌then◌else◌, List, [], ◌∷◌, ℕ, zero, suc, ◌+◌, ◌-◌, ◌<◌, ◌≤◌, Result, Ok, Err, arith, length, map, nat_lt, slice_index_or, take}
+use Rattle.std.proofs.lemmas.Bool.{cases_lt}
 use Rattle.std.proofs.lemmas.Bool.Decides.{nat_tests}
-use Rattle.std.proofs.lemmas.List.{take_all}
+use Rattle.std.proofs.lemmas.List.{length-take, take_all}
+use Rattle.std.specs.List.{onto_first}
 use Rattle.std.specs.Result.{IsOk}
 use Rattle.common.specs.declared.refusal.Refusal.{Refusal}
 use Rattle.file.proofs.Loads.{run-cons, run-none}
 use Rattle.file.specs.Faults.{Figures, figures, told}
 use Rattle.file.specs.Lines.{pieces}
-use Rattle.file.specs.Stopping.{AtFault, LineByLine, front, line_makes}
+use Rattle.file.specs.Stopping.{AtFault, FrontTells, LineByLine, front, line_makes}
 use Rattle.file.specs.Loads.{Made, after, and_then, call_of, layer, loaded, longest, nothing_made, obeyed, run, verdict}
 use Rattle.file.specs.Readings.{Reading, reading}
 use Rattle.file.specs.declared.fault.Fault.TheVariants.{TooLong}
@@ -106,6 +108,20 @@ stopped [] m n fault is = absurd (grind (arith, is, run-none m n))
 stopped (p ∷ ps) m n fault is =
     then-err (obeyed m n (reading p)) p ps m n fault refl (sym (run-cons m n (reading p) (map reading ps)) ∙ is) (λ x. stopped ps x (suc n) fault)
 
+-- ---- a line has a byte at least
+
+onto_length : (b : ℕ) (ps : List (List ℕ)) → length (onto_first b ps) ≤ suc (length ps)
+onto_length b [] = omega arith
+onto_length b (p ∷ ps) = omega arith
+
+few_pieces : (file : List ℕ) → length (pieces file) ≤ length file
+few_pieces [] = omega arith
+few_pieces (b ∷ bs) = by (b == 10) (few_pieces bs)
+  where
+    by : (t : Bool) → length (pieces bs) ≤ length bs → length (if t then (b ∷ []) ∷ pieces bs else onto_first b (pieces bs)) ≤ suc (length bs)
+    by true few = omega (arith, few)
+    by false few = omega (arith, few, onto_length b (pieces bs))
+
 -- ---- of a file
 
 too_long-ok : (b : Bool) (a : Result Made Figures) (m : Made) → (if b then Err (figures TooLong) else a) ≡ Ok m → a ≡ Ok m
@@ -141,6 +157,20 @@ at_fault file fault s =
           (subst (λ l. obeyed s.before l (reading (slice_index_or (pieces file) s.place [])) ≡ Err fault) (sym s.line) s.stops);
     }
 
+told_small : (file : List ℕ) (fault : Figures) → loaded file ≡ Err fault → (longest < length file) ⊎ (length file ≤ longest) → fault.line < 65536
+told_small file fault is (inr short) =
+    let s = stopped (pieces file) nothing_made 1 fault (sym (loaded-short file short) ∙ is) in
+    omega (arith, s.line, s.within, few_pieces file, short)
+told_small file fault is (inl long) = let same : figures TooLong ≡ fault = grind (arith, is, loaded-long file long) in subst (λ (f : Figures). f.line < 65536) same (omega arith)
+
+-- a byte more than the longest file has tells that it is too long
+front_tells : (file : List ℕ) → (longest < length file) ⊎ (length file ≤ longest) → loaded (take 65536 file) ≡ loaded file
+front_tells file (inr short) = ap loaded (take_all 65536 file (omega (arith, short)))
+front_tells file (inl long) = loaded-long (take 65536 file) (omega (arith, length-take 65536 file, long)) ∙ sym (loaded-long file long)
+
+pub by_front : FrontTells 65536
+by_front file = front_tells file (cases_lt longest (length file))
+
 pub line_by_line : (file : List ℕ) → LineByLine file
 unfolding loaded
 line_by_line file =
@@ -151,4 +181,5 @@ line_by_line file =
       too_long = loaded-long file;
       without = λ m is. ok-front (pieces file) nothing_made 1 m (too_long-ok (nat_lt longest (length file)) (run nothing_made 1 (map reading (pieces file))) m is);
       fault = λ fault short is. at_fault file fault (stopped (pieces file) nothing_made 1 fault (sym (loaded-short file short) ∙ is));
+      told = λ fault is. told_small file fault is (cases_lt longest (length file));
     }

@@ -6,6 +6,7 @@
 --     ReadBack          the line of a frame and a note is read as that frame and that note
 --     SavedReads t b    what is saved of a table and a book's contents is cut into lines, each of which is read as its frame
 --     SavedLoads s b    what is saved of a sheet and a book is loaded as what they hold
+--     LoadsOnly s b     and a sheet and a book that hold what is loaded of it are these very values
 use Rattle.std.specs.Prelude.{List, ◌≡◌, ◌↔◌, ℕ, ◌%◌, ◌<◌, All, IfSome, Option, Some, None, Ok, map, sum}
 use Rattle.book.specs.Standard.{Contents, contents}
 use Rattle.book.specs.declared.standard.StandardBook.{StandardBook}
@@ -41,3 +42,6 @@ SavedReads t b = map reading (pieces (saved t b)) ≡ map (λ f. Ok (record { fr
 
 abbrev pub SavedLoads : Sheet → StandardBook → Type 0
 SavedLoads s b = loaded (saved (table s) (contents b)) ≡ Ok (made s b)
+
+abbrev pub LoadsOnly : Sheet → StandardBook → Type 0
+LoadsOnly s b = (s' : Sheet) (b' : StandardBook) → loaded (saved (table s) (contents b)) ≡ Ok (made s' b') → (s' ≡ s) × (b' ≡ b)

@@ -1,2 +1,3 @@
 pub mod Histories
-pub mod Plans
+pub mod Following
+pub mod Fronts

@@ -2,11 +2,12 @@
 --     after t call         the table after the call: a refused call, a load with a fault and a plan leave it; a load without one
 --                          makes it the file's; any other changes it as the call says
 --     resulting history    the table that the whole history makes of a new sheet
---     Left m t call ..     what the call leaves in the memory lent for plans, where it is made on the table t: the cells are `cells` before
---                          and `cells'` after, the order `order` and `order'`. Only a plan writes there
+--     Left m t call ..     what the call leaves in the memory lent for plans, where it is made on the table t: the cells are `cells`
+--                          before and `cells'` after, the order `order` and `order'`. Only a plan writes there, in the front part that
+--                          it is given: so many cells and bytes, or all where there are fewer
 --     Passed m t calls ..  what all the calls leave there
 --     Replayed ..          the same of the whole history on a new sheet, and then of the plan that answers r
-use Rattle.std.specs.Prelude.{◌≡◌, List, [], ◌∷◌, ℕ, Result, Ok, Err, fold}
+use Rattle.std.specs.Prelude.{◌≡◌, List, [], ◌∷◌, ℕ, Result, Ok, Err, drop, fold, take}
 use Rattle.book.specs.Worths.{Meaning}
 use Rattle.common.specs.declared.refusal.Refusal.{Refusal}
 use Rattle.file.specs.Faults.{Figures}
@@ -24,7 +25,7 @@ tasks_or t (Err fault) = t
 abbrev pub after : Table → Call → Table
 after t (Sheet call) = sheet.after t call
 after t (Load file) = tasks_or t (loaded file.now)
-after t Plan = t
+after t (Plan n k) = t
 
 abbrev pub resulting : List Call → Table
 resulting history = fold after [] history
@@ -32,7 +33,9 @@ resulting history = fold after [] history
 abbrev pub Left : Meaning → Table → Call → (cells cells' order order' : List ℕ) → Type 0
 Left m t (Sheet call) cells cells' order order' = (cells' ≡ cells) × (order' ≡ order)
 Left m t (Load file) cells cells' order order' = (cells' ≡ cells) × (order' ≡ order)
-Left m t Plan cells cells' order order' = (r : Result ℕ Refusal) × Planned m t cells cells' order order' r
+Left m t (Plan n k) cells cells' order order' =
+    (r : Result ℕ Refusal) × Planned m t (take n cells) (take n cells') (take k order) (take k order') r
+    × (drop n cells' ≡ drop n cells) × (drop k order' ≡ drop k order)
 
 abbrev pub Passed : Meaning → Table → List Call → (cells cells' order order' : List ℕ) → Type 0
 Passed m t [] cells cells' order order' = (cells' ≡ cells) × (order' ≡ order)

@@ -1,2 +1,2 @@
-pub mod BestOrder
 pub mod Histories
+pub mod Following

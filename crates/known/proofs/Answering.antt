@@ -13,7 +13,7 @@ use Rattle.file.specs.Faults.{figures}
 use Rattle.file.specs.Frames.{bytes_line}
 use Rattle.file.specs.Loads.{Made}
 use Rattle.file.specs.declared.fault.Fault.TheVariants.{Plan}
-use Rattle.known.proofs.Plans.{best, none as none-lawful, one}
+use Rattle.plan.proofs.Tests.{best, none as none-lawful, one}
 use Rattle.known.specs.Answers.{AnswerTests, is_shown, total_of}
 use Rattle.plan.proofs.Orders.{lawful-to}
 use Rattle.plan.proofs.Runs.{earned-small, runs-of}

@@ -1,7 +1,7 @@
 -- The tests of the worked list decide what the definitions say. Assumes nothing.
 use Rattle.std.proofs.Common.{◌≡◌, refl, sym, ap, Bool, true, false, not, ◌&&◌, ⊎_elim, ℕ, ◌*◌, ◌≤◌, ◌<◌, arith, leb, ltb, pos, ◌≤ℤ◌, ◌<ℤ◌, Option, Some, None, length}
 use Rattle.std.proofs.lemmas.Bool.{cases_lt, not-true}
-use Rattle.std.proofs.lemmas.Bool.Decides.{Decides-and, Decides-below_and, Decides-like}
+use Rattle.std.proofs.lemmas.Bool.Decides.{Decides-and, Decides-like}
 use Rattle.std.proofs.lemmas.Grind.{common_steps}
 use Rattle.std.proofs.lemmas.Int.{ints}
 use Rattle.std.specs.Prelude.{Decides, is_none}
@@ -11,14 +11,11 @@ use Rattle.book.specs.Worths.{Meaning}
 use Rattle.common.specs.Sets.{any}
 use Rattle.common.specs.declared.ticks.Margin.{Margin}
 use Rattle.known.specs.Worked.{Tests, is_keenest, none_soft, smaller}
+use Rattle.plan.proofs.Tests.{none-below}
 use Rattle.sheet.proofs.Margins.{no-margin}
 use Rattle.sheet.proofs.Rules.{Sound}
 use Rattle.sheet.specs.Margins.{margin_of, Tightest}
 use Rattle.sheet.specs.Tables.{Table}
-
--- what holds of each number below n, where it holds of each number that fails p
-pub none-below : (n : ℕ) (p : ℕ → Bool) (P : ℕ → Type 0) → ((k : ℕ) → Decides (not (p k)) (P k)) → Decides (not (any n p)) ((k : ℕ) → k < n → P k)
-none-below n p P each = Decides-below_and (λ k. not (p k)) P (λ k. not (any k p)) each refl (λ k. grind arith) n
 
 -- ---- a margin that may be absent: it is not smaller than m, m is smaller than it, it is absent
 

@@ -1,5 +1,4 @@
 pub mod Deciding
 pub mod Lines
-pub mod Plans
 pub mod Rows
 pub mod Answering

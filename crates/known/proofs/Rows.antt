@@ -8,8 +8,8 @@ use Rattle.std.specs.Prelude.{Decides}
 use Rattle.common.proofs.Sets.{any-decides}
 use Rattle.common.specs.Refusals.{first_fit}
 use Rattle.common.specs.Sets.{has}
-use Rattle.known.proofs.Plans.{all-from, any-to, before-decides, goes-decides, listed, none-passes}
-use Rattle.known.specs.Plans.{goes}
+use Rattle.plan.proofs.Tests.{all-from, any-to, before-decides, goes-decides, listed, none-passes}
+use Rattle.plan.specs.Tests.{goes}
 use Rattle.known.specs.Rows.{RowTests, ahead, is_first, is_judged, lacks, leads, rests}
 use Rattle.plan.proofs.Orders.{lawful-from, lawful-to}
 use Rattle.plan.specs.Orders.{Lawful, Order, times}

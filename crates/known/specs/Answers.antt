@@ -14,7 +14,7 @@ use Rattle.file.specs.Faults.{Figures, figures}
 use Rattle.file.specs.Frames.{bytes_line}
 use Rattle.file.specs.Loads.{Made}
 use Rattle.file.specs.declared.fault.Fault.TheVariants.{Plan}
-use Rattle.known.specs.Plans.{following, is_best, none_lawful}
+use Rattle.plan.specs.Tests.{following, is_best, none_lawful}
 use Rattle.plan.specs.Orders.{Order}
 use Rattle.plan.specs.Totals.{total}
 

@@ -1,5 +1,4 @@
 pub mod Worked
-pub mod Plans
 pub mod Rows
 pub mod Files
 pub mod Answers

@@ -10,7 +10,7 @@ use Rattle.std.specs.Prelude.{Decides, Bool, not, ◌&&◌, ◌||◌, [], ◌∷
 use Rattle.std.specs.List.{list_all, list_any, starts_with}
 use Rattle.common.specs.Refusals.{first_fit}
 use Rattle.common.specs.Sets.{any}
-use Rattle.known.specs.Plans.{before, goes, orders}
+use Rattle.plan.specs.Tests.{before, goes, orders}
 use Rattle.plan.specs.Orders.{Order, times}
 use Rattle.row.specs.Rows.{First, Judged, Leads, set_of}
 use Rattle.sheet.specs.Links.{linked}

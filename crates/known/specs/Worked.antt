@@ -28,7 +28,7 @@ use Rattle.file.specs.Readings.{note_now, reading}
 use Rattle.file.specs.Saved.{saved}
 use Rattle.known.specs.Answers.{is_answer}
 use Rattle.known.specs.Files.{all_names, all_read, all_refused, is_noted}
-use Rattle.known.specs.Plans.{is_best, is_cell, none_lawful}
+use Rattle.plan.specs.Tests.{is_best, is_cell, none_lawful}
 use Rattle.known.specs.Rows.{is_first, is_judged, leads}
 use Rattle.plan.specs.Orders.{expected, maximum}
 use Rattle.plan.specs.Totals.{total}

@@ -6,7 +6,7 @@ ghost use Rattle.std.specs.Prelude.{◌≡◌, true};
 ghost use Rattle.file.specs.Loads.{made};
 ghost use Rattle.known.specs.Answers.{AnswerTests};
 ghost use Rattle.known.specs.Files.{FileTests};
-ghost use Rattle.known.specs.Plans.{PlanTests};
+ghost use Rattle.plan.specs.Tests.{PlanTests};
 ghost use Rattle.known.specs.Rows.{RowTests};
 ghost use Rattle.known.specs.Worked.{each_right, Tests};
 ghost use Rattle.sheet.specs.Sheets.{table};

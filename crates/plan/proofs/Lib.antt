@@ -6,3 +6,6 @@ pub mod Following
 pub mod Leading
 pub mod Fitting
 pub mod Answering
+pub mod Stated
+pub mod Tests
+pub mod Found

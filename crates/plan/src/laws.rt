@@ -3,6 +3,7 @@ ghost use Rattle.std.specs.Prelude.{◌≡◌, ◌↔◌, ◌<◌, ℕ};
 ghost use Rattle.book.specs.Worths.{Meaning};
 ghost use Rattle.plan.specs.Cells.{Cell};
 ghost use Rattle.plan.specs.Orders.{Continuation, Lawful, NoLawful, Order};
+ghost use Rattle.plan.specs.Tests.{PlanTests, TestsAnswer};
 ghost use Rattle.plan.specs.Totals.{Best};
 ghost use Rattle.sheet.specs.Links.{Closed};
 ghost use Rattle.sheet.specs.Margins.{Fits};
@@ -31,4 +32,16 @@ pub fn cells_decide()
 // No two orders are the best.
 pub fn best_is_unique()
     ensures { (m : Meaning) (t : Table) (o p : Order) → Best m t o → Best m t p → o ≡ p }
+{}
+
+// The tests that compute, by listing every order, find exactly what is best, lawful and in a cell, of every sheet and under every
+// meaning.
+pub fn tests_stand(sheet: &Sheet)
+    ensures { PlanTests (table sheet.now) }
+{}
+
+// So they find exactly what `plan` answers and leaves where memory suffices: for a sheet that is made of constants, the prover
+// computes the answer.
+pub fn tests_answer(sheet: &Sheet)
+    ensures { TestsAnswer (table sheet.now) }
 {}

@@ -1,7 +1,10 @@
 // The best order of a sheet's tasks under a worth book.
 #![tactic(auto)]
 
-ghost use Rattle.plan.specs.Planned.{Planned};
+ghost use Rattle.std.specs.Prelude.{◌↔◌, IsOk};
+ghost use Rattle.plan.specs.BestOrder.{BestOrder};
+ghost use Rattle.plan.specs.Planned.{Planned, Suffices};
+ghost use Rattle.sheet.specs.Margins.{Fits};
 ghost use Rattle.sheet.specs.Sheets.{table};
 
 use book::Book;
@@ -13,7 +16,7 @@ mod laws;
 mod next;
 mod walk;
 
-pub use laws::{best_is_unique, cells_decide, margins_decide};
+pub use laws::{best_is_unique, cells_decide, margins_decide, tests_answer, tests_stand};
 pub use next::earns;
 
 // Writes to the front of `order` the lawful order of greatest total, the first of equals, and answers that total. `cells` is
@@ -25,7 +28,9 @@ pub fn plan<B: Book>(
     cells: &mut [u32],
     order: &mut [u8],
 ) -> Result<u32, Refusal>
-    ensures { Planned (B.meaning book.now) (table sheet.now) cells.old cells.new order.old order.new result }
+    ensures planned { Planned (B.meaning book.now) (table sheet.now) cells.old cells.new order.old order.new result }
+    ensures best { BestOrder (B.meaning book.now) (table sheet.now) cells.old order.old order.new result }
+    ensures total { IsOk result ↔ (Suffices (table sheet.now) cells.old order.old × Fits (table sheet.now)) }
 {
     let count = usize::from(sheet.count());
     if cells.len() < 1 << count || order.len() < count {

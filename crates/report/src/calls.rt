@@ -1,10 +1,10 @@
 // What groups call on a sheet and on its book, and what each call answers.
 use crate::names::Names;
+use crate::recorded::Recorded;
 use crate::shown::print_refusal;
 use crate::week::Group;
 use book::StandardBook;
 use common::Refusal;
-use sheet::Sheet;
 use std::{fmt, io};
 
 // A call and its answer; a new task answers its number.
@@ -25,13 +25,13 @@ fn print_answer(
 pub fn print_group(
     rt: &impl Print,
     names: Names,
-    sheet: &mut Sheet,
+    recorded: &mut Recorded,
     book: &mut StandardBook,
     group: &Group,
 ) -> io::Result<()> {
     println!(rt; "{}", group.name)?;
     for &call in group.tasks {
-        print_answer(rt, names, &call, sheet.make(call))?;
+        print_answer(rt, names, &call, recorded.make(call)?)?;
     }
     for &call in group.curves {
         print_answer(rt, names, &call, book.make(call).map(|()| None))?;

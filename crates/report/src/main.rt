@@ -8,18 +8,20 @@
 use book::StandardBook;
 use by_hand::print_row;
 use calls::print_group;
-use file::{Fault, MOST_READ, ROOM, load_new, save};
+use file::{Fault, MOST_READ, ROOM, save};
 use names::Names;
+use recorded::Recorded;
 use sheet::Sheet;
 use shown::print_refusal;
 use std::io::{self, Read, Write};
 use table::print_sheet;
-use timeline::print_plan;
-use week::{BUS_GROUP, NAMES, RF_GROUP, SOONER};
+use timeline::{CELLS, PLANNED, print_plan};
+use week::{BUS_GROUP, Group, NAMES, RF_GROUP, SOONER};
 
 mod by_hand;
 mod calls;
 mod names;
+mod recorded;
 mod shown;
 mod table;
 mod timeline;
@@ -40,20 +42,21 @@ fn print_file(rt: &impl Print, sheet: &Sheet, book: &StandardBook) -> io::Result
     }
 }
 
-fn run_week(rt: &impl Print) -> io::Result<()> {
+fn run_week(rt: &(impl Print + AllocGlobal)) -> io::Result<()> {
     let names = Names::Listed(&NAMES);
-    let mut sheet = Sheet::new();
+    let mut recorded = Recorded::new(rt.alloc());
     let mut book = StandardBook::new();
     for group in [&RF_GROUP, &BUS_GROUP] {
-        print_group(rt, names, &mut sheet, &mut book, group)?;
+        print_group(rt, names, &mut recorded, &mut book, group)?;
     }
-    print_sheet(rt, names, &sheet, &book)?;
-    print_file(rt, &sheet, &book)?;
-    let total = print_plan(rt, names, &sheet, &book)?;
-    print_row(rt, names, &sheet, &book, total)?;
-    print_group(rt, names, &mut sheet, &mut book, &SOONER)?;
-    let total = print_plan(rt, names, &sheet, &book)?;
-    print_row(rt, names, &sheet, &book, total)
+    print_sheet(rt, names, recorded.sheet(), &book)?;
+    print_file(rt, recorded.sheet(), &book)?;
+    let total = print_plan(rt, names, &recorded, &book)?;
+    recorded.note_plan(CELLS, PLANNED)?;
+    print_row(rt, names, recorded.sheet(), &book, total)?;
+    print_group(rt, names, &mut recorded, &mut book, &SOONER)?;
+    let total = print_plan(rt, names, &recorded, &book)?;
+    print_row(rt, names, recorded.sheet(), &book, total)
 }
 
 fn print_fault(rt: &impl Print, fault: Fault) -> io::Result<()> {
@@ -66,14 +69,14 @@ fn print_fault(rt: &impl Print, fault: Fault) -> io::Result<()> {
     )
 }
 
-fn run_file(rt: &impl Print, file: &[u8]) -> io::Result<()> {
-    let (sheet, book) = match load_new(file) {
+fn run_file(rt: &(impl Print + AllocGlobal), file: &[u8]) -> io::Result<()> {
+    let (recorded, book) = match Recorded::load(rt.alloc(), file)? {
         Ok(made) => made,
         Err(fault) => return print_fault(rt, fault),
     };
     let names = Names::Noted(file);
-    print_sheet(rt, names, &sheet, &book)?;
-    print_plan(rt, names, &sheet, &book)?;
+    print_sheet(rt, names, recorded.sheet(), &book)?;
+    print_plan(rt, names, &recorded, &book)?;
     Ok(())
 }
 

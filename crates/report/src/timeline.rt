@@ -1,5 +1,6 @@
 // Orders as timelines, and the best order.
 use crate::names::Names;
+use crate::recorded::Recorded;
 use crate::shown::{OrDash, print_refusal, worth};
 use book::StandardBook;
 use common::{Expected, Maximum};
@@ -7,7 +8,10 @@ use sheet::Sheet;
 use std::io;
 
 // At most this many tasks are planned.
-const PLANNED: usize = 14;
+pub const PLANNED: usize = 14;
+
+// A cell for each set of them.
+pub const CELLS: usize = 1 << PLANNED;
 
 // The sheet's tasks, which stand in the first places of the order: each with its expected and its maximum completion, its
 // deadline, and what it is worth then.
@@ -37,16 +41,17 @@ pub fn print_order(
     Ok(())
 }
 
-// The best order and its total, which it answers; or why there is none.
+// The best order and its total, which it answers; or why there is none. The sheet that is planned is the one that is printed: the
+// order has all that is proved of the plan of that sheet.
 pub fn print_plan(
     rt: &impl Print,
     names: Names,
-    sheet: &Sheet,
+    recorded: &Recorded,
     book: &StandardBook,
 ) -> io::Result<Option<u32>> {
-    let mut cells = [0; 1 << PLANNED];
+    let mut cells = [0; CELLS];
     let mut order = [0; PLANNED];
-    let total = match plan::plan(sheet, book, &mut cells, &mut order) {
+    let total = match recorded.plan(book, &mut cells, &mut order) {
         Ok(total) => total,
         Err(refusal) => {
             print!(rt; "No plan: ")?;
@@ -55,7 +60,7 @@ pub fn print_plan(
         }
     };
     println!(rt; "Plan  name            expected  maximum deadline    worth")?;
-    print_order(rt, names, sheet, book, &order)?;
+    print_order(rt, names, recorded.sheet(), book, &order)?;
     println!(rt; "Total: {total}")?;
     Ok(Some(total))
 }

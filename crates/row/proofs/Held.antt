@@ -26,6 +26,9 @@ module _ (x : OpenRow) where
   pub counts : count_ones x.placed.0 ≡ length (laid x)
   counts = ap count_ones x.holds ∙ set-counts (table x.sheet) (laid x) leads-on
 
+  pub few : length (laid x) ≤ length (table x.sheet)
+  few = omega (arith, length-row (table x.sheet) (laid x) leads-on.0 leads-on.1)
+
   module _ (k : ℕ) (more : Leads (table x.sheet) (laid x ++ k ∷ [])) where
     pub place-left : count_ones x.placed.0 < 16
     place-left = omega (arith, counts, short (table x.sheet) (laid x) k more, few-listed x.sheet.table)
@@ -43,6 +46,12 @@ module _ (x : OpenRow) where
 
       pub holds-more : w ≡ set_of (laid x ++ k ∷ [])
       holds-more = with-more ∙ ap (λ s. adding s k) x.holds ∙ sym (joined-more 0 k (laid x))
+
+pub few-ones : (x : OpenRow) → count_ones x.placed.0 ≤ 16
+few-ones x = omega (arith, counts x, few x, few-listed x.sheet.table)
+
+-- how many tasks there are
+pub ruleset counted = (counts, few, few-ones)
 
 -- ---- what placing task k is answered, by what the code asks
 

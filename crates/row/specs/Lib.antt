@@ -1,3 +1,4 @@
 pub mod Rows
 pub mod Laid
 pub mod Tallies
+pub mod Trials

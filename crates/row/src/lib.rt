@@ -1,12 +1,13 @@
 // Rows of tasks that are laid by hand: every row is the front of a lawful order, and the rest can be laid by itself.
 #![tactic(auto)]
 
-ghost use Rattle.std.specs.Prelude.{◌≡◌, ◌⊎◌, []};
+ghost use Rattle.std.specs.Prelude.{◌≡◌, ◌↔◌, ◌⊎◌, []};
 ghost use Rattle.common.specs.Refusals.{number, outcome};
 ghost use Rattle.common.specs.declared.refusal.Refusal.TheVariants.{NoOrder};
 ghost use Rattle.plan.specs.Orders.{NoLawful};
-ghost use Rattle.row.specs.Laid.{laid};
+ghost use Rattle.row.specs.Laid.{laid, open_sheet};
 ghost use Rattle.row.specs.Rows.{Leads};
+ghost use Rattle.sheet.specs.Margins.{Fits};
 ghost use Rattle.sheet.specs.Sheets.{table};
 
 use common::Refusal;
@@ -28,8 +29,10 @@ pub use trial::Trial;
 // stands 10.
 pub fn begin(sheet: &Sheet) -> (OpenRow, Result<(), Refusal>)
     ensures empty { laid result.0 ≡ [] }
-    ensures begun { outcome result.1 ≡ 0 → (result.0.sheet ≡ sheet.now) × Leads (table sheet.now) [] }
-    ensures refused { outcome result.1 ≡ number NoOrder → (table result.0.sheet ≡ []) × NoLawful (table sheet.now) }
+    ensures fits { (outcome result.1 ≡ 0) ↔ Fits (table sheet.now) }
+    ensures unfit { (outcome result.1 ≡ number NoOrder) ↔ (Fits (table sheet.now) → ⊥) }
+    ensures begun { outcome result.1 ≡ 0 → (open_sheet result.0 ≡ sheet.now) × Leads (table sheet.now) [] }
+    ensures refused { outcome result.1 ≡ number NoOrder → (table (open_sheet result.0) ≡ []) × NoLawful (table sheet.now) }
     ensures only { (outcome result.1 ≡ 0) ⊎ (outcome result.1 ≡ number NoOrder) }
 {
     if sheet.fits() {

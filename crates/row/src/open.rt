@@ -20,14 +20,16 @@ pub struct OpenRow {
 }
 
 impl OpenRow {
-    ghost use Rattle.std.specs.Prelude.{[], ◌∷◌, ◌++◌, IfErr};
+    ghost use Rattle.std.specs.Prelude.{ℕ, [], ◌∷◌, ◌++◌, ◌≤◌, IfErr, nat_lt};
     ghost use Rattle.common.specs.Refusals.{outcome, kept_unless};
-    ghost use Rattle.row.specs.Laid.{laid, order};
+    ghost use Rattle.common.specs.Sets.{has};
+    ghost use Rattle.plan.specs.Orders.{times};
+    ghost use Rattle.row.specs.Laid.{full_sheet, laid, open_sheet, order_of};
     ghost use Rattle.row.specs.Rows.{First, Judged, Lowest};
 
     pub(crate) fn on(sheet: Sheet) -> OpenRow
         requires { Leads (table sheet) [] }
-        ensures sheet { result.sheet ≡ sheet }
+        ensures sheet { open_sheet result ≡ sheet }
         ensures empty { laid result ≡ [] }
     {
         OpenRow {
@@ -39,7 +41,7 @@ impl OpenRow {
 
     // A copy of the row's sheet.
     pub fn sheet(&self) -> Sheet
-        ensures { result ≡ self.now.sheet }
+        ensures { result ≡ open_sheet self.now }
     {
         self.sheet
     }
@@ -47,14 +49,34 @@ impl OpenRow {
     // The tasks of the row, the first to run first.
     pub fn order(&self) -> &[u8]
         ensures tasks { result.now ≡ laid self.now }
-        ensures leads { Leads (table self.now.sheet) result.now }
+        ensures leads { Leads (table (open_sheet self.now)) result.now }
     {
         &self.order[0..self.placed.len() as usize]
     }
 
+    // Which tasks the row has.
+    #[tactic(auto, using(crate::proofs::Laying::set_has))]
+    pub fn placed(&self) -> TaskSet
+        ensures set { result.0 ≡ set_of (laid self.now) }
+        ensures members { (k : ℕ) → has result.0 k ≡ nat_lt 0 (times k (laid self.now)) }
+    {
+        self.placed
+    }
+
+    // How many tasks the row has.
+    #[tactic(auto, using(crate::proofs::Held::counted))]
+    pub fn count(&self) -> u8
+        ensures ones { result ≡ count_ones (set_of (laid self.now)) }
+        ensures counts { result ≡ length (laid self.now) }
+        ensures few { result ≤ length (table (open_sheet self.now)) }
+    {
+        // At most 16: the cast is proved to keep it.
+        self.placed.len() as u8
+    }
+
     // Whether task t may be placed next. By the margins of what is left after it, and not by a search over orders.
     pub(crate) fn judge(&self, t: u8) -> Result<(), Refusal>
-        ensures { Judged (table self.now.sheet) (laid self.now) t (outcome result) }
+        ensures { Judged (table (open_sheet self.now)) (laid self.now) t (outcome result) }
     {
         let task = self.sheet.get(t)?;
         if self.placed.contains(t) {
@@ -71,8 +93,8 @@ impl OpenRow {
 
     // Puts task t at the end.
     fn put(&mut self, t: u8)
-        requires { Leads (table self.old.sheet) (laid self.old ++ t ∷ []) }
-        ensures sheet { self.new.sheet ≡ self.old.sheet }
+        requires { Leads (table (open_sheet self.old)) (laid self.old ++ t ∷ []) }
+        ensures sheet { open_sheet self.new ≡ open_sheet self.old }
         ensures more { laid self.new ≡ laid self.old ++ t ∷ [] }
     {
         self.order[self.placed.len() as usize] = t;
@@ -81,9 +103,9 @@ impl OpenRow {
 
     // Puts task t at the end, where some lawful order begins so.
     pub fn place(&mut self, t: u8) -> Result<(), Refusal>
-        ensures says { Judged (table self.old.sheet) (laid self.old) t (outcome result) }
+        ensures says { Judged (table (open_sheet self.old)) (laid self.old) t (outcome result) }
         ensures lays { laid self.new ≡ kept_unless (outcome result) (laid self.old ++ t ∷ []) (laid self.old) }
-        ensures sheet { self.new.sheet ≡ self.old.sheet }
+        ensures sheet { open_sheet self.new ≡ open_sheet self.old }
         ensures kept { IfErr result (λ _. self.new ≡ self.old) }
     {
         self.judge(t)?;
@@ -93,9 +115,9 @@ impl OpenRow {
 
     // Lays what is missing, at each place the lowest task that may be placed there.
     pub fn finish(mut self) -> FullRow
-        ensures sheet { result.sheet ≡ self.sheet }
-        ensures first { First (table self.sheet) (laid self) (order result) }
-        ensures lowest { Lowest (table self.sheet) (laid self) (order result) }
+        ensures sheet { full_sheet result ≡ open_sheet self }
+        ensures first { First (table (open_sheet self)) (laid self) (order_of result) }
+        ensures lowest { Lowest (table (open_sheet self)) (laid self) (order_of result) }
     {
         for _ in self.placed.len()..u32::from(self.sheet.count()) {
             let mut t = 0;

@@ -62,13 +62,13 @@ impl OpenRow {
     ghost use Rattle.std.specs.Prelude.{ℕ, nat_lt};
     ghost use Rattle.common.specs.Sets.{has};
     ghost use Rattle.plan.specs.Orders.{times};
-    ghost use Rattle.row.specs.Laid.{laid};
+    ghost use Rattle.row.specs.Laid.{laid, open_sheet};
     ghost use Rattle.row.specs.Tallies.{Tells};
 
     // The figures of the row.
     #[tactic(auto, using(crate::proofs::Laying::set_has))]
     pub fn tally<B: Book>(&self, book: &B) -> Tally
-        ensures tells { Tells (B.meaning book.now) (table self.now.sheet) (laid self.now) result }
+        ensures tells { Tells (B.meaning book.now) (table (open_sheet self.now)) (laid self.now) result }
         ensures members { (k : ℕ) → has result.placed.0 k ≡ nat_lt 0 (times k (laid self.now)) }
     {
         Tally::of(&self.sheet, book, self.order())

@@ -2,7 +2,7 @@
 ghost use Rattle.std.specs.Prelude.{◌≡◌, ◌↔◌, ◌++◌};
 ghost use Rattle.common.specs.Refusals.{outcome};
 ghost use Rattle.plan.specs.Planned.{Planned};
-ghost use Rattle.row.specs.Laid.{laid};
+ghost use Rattle.row.specs.Laid.{laid, open_sheet};
 ghost use Rattle.row.specs.Rows.{Leads};
 ghost use Rattle.sheet.specs.Sheets.{table};
 
@@ -15,9 +15,9 @@ use sheet::Sheet;
 // Places the tasks one after another, up to the first that is refused. All are accepted exactly where some lawful order begins
 // with the row and then the tasks.
 fn lay(row: &mut OpenRow, tasks: &[u8]) -> Result<(), Refusal>
-    ensures all { (outcome result ≡ 0) ↔ Leads (table row.old.sheet) (laid row.old ++ tasks.now) }
+    ensures all { (outcome result ≡ 0) ↔ Leads (table (open_sheet row.old)) (laid row.old ++ tasks.now) }
     ensures lays { outcome result ≡ 0 → laid row.new ≡ laid row.old ++ tasks.now }
-    ensures sheet { row.new.sheet ≡ row.old.sheet }
+    ensures sheet { open_sheet row.new ≡ open_sheet row.old }
 {
     for t in tasks {
         row.place(*t)?;

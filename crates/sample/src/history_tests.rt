@@ -11,6 +11,9 @@ const THREE: &[u8] = b"0100010001FD\n0100050005F5\n0100020002FB\n0301000006F6\n0
 // The same, and then a line that can't be read.
 const FAULTY: &[u8] = b"0100010001FD\n0100050005F5\n0100020002FB\n0301000006F6\n0502F8\n";
 
+// A plan in all of the memory that `replayed` lends.
+const PLAN: Call<'static> = Plan { cells: 9, bytes: 4 };
+
 // Worth 12 up to 7, then falling to nothing at 10.
 fn falling() -> StandardBook {
     let mut book = StandardBook::new();
@@ -39,14 +42,14 @@ fn refused_calls_and_faults_leave_the_sheet(rt: HostRuntime) {
         Call::Sheet(Task(9, 9)),
         Call::Sheet(Link(0, 0)),
         Load(FAULTY),
-        Plan,
+        PLAN,
         Load(THREE),
         Call::Sheet(Task(0, 1)),
         Call::Sheet(Hard(2, 9)),
         Call::Sheet(Cut(0, 1)),
         Load(FAULTY),
         Load(b"\n"),
-        Plan,
+        PLAN,
     ]);
     assert_eq!(rt; answer, Ok(12));
     assert!(rt; cells[0] == 13 && cells[7] == 1 && cells[8] == 7 && order == [1, 2, 0, 9]);
@@ -71,15 +74,43 @@ fn calls_after_a_load_change_its_sheet(rt: HostRuntime) {
 // A plan in between fills cells of the larger sheet, which the last plan, of no task, leaves.
 #[test]
 fn a_plan_in_between_leaves_its_cells(rt: HostRuntime) {
-    let (answer, cells, order) = replayed(&[Load(THREE), Plan, Load(b""), Plan]);
+    let (answer, cells, order) = replayed(&[Load(THREE), PLAN, Load(b""), PLAN]);
     assert_eq!(rt; answer, Ok(0));
     assert!(rt; cells[0] == 1 && cells[7] == 1 && cells[8] == 7 && order == [1, 2, 0, 9]);
 }
 
 #[test]
 fn memory_too_short_is_refused(rt: HostRuntime) {
-    let four = [Load(THREE), Plan, Call::Sheet(Task(1, 1)), Plan];
+    let four = [Load(THREE), PLAN, Call::Sheet(Task(1, 1)), PLAN];
     assert_eq!(rt; replayed(&four).0, Err(Refusal::Memory));
+}
+
+// Three tasks need eight cells and three bytes: a plan that is given fewer leaves all of them, and the last one answers.
+#[test]
+fn a_plan_in_too_few_cells_leaves_the_memory(rt: HostRuntime) {
+    let few = Plan { cells: 7, bytes: 4 };
+    let short = Plan { cells: 9, bytes: 2 };
+    let (answer, cells, order) = replayed(&[Load(THREE), few, short, Load(b"")]);
+    assert_eq!(rt; answer, Ok(0));
+    assert!(rt; cells == [1, 7, 7, 7, 7, 7, 7, 7, 7] && order == [9; 4]);
+    let (answer, _, order) = replayed(&[Load(THREE), few, short]);
+    assert!(rt; answer == Ok(12) && order == [1, 2, 0, 9]);
+}
+
+// A plan that is given just enough is made; one that is given more than there is has all of it.
+#[test]
+fn a_plan_is_made_in_what_it_is_given(rt: HostRuntime) {
+    let most = usize::MAX;
+    for plan in [
+        Plan { cells: 8, bytes: 3 },
+        Plan {
+            cells: most,
+            bytes: most,
+        },
+    ] {
+        let (answer, cells, order) = replayed(&[Load(THREE), plan, Load(b"")]);
+        assert!(rt; answer == Ok(0) && cells[7] == 1 && order == [1, 2, 0, 9]);
+    }
 }
 
 #[test]

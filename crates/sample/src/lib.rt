@@ -8,18 +8,24 @@ ghost use Rattle.sample.specs.Flat.{flat, flat-sound};
 use book::{Book, Sum, TOP};
 use common::{Expected, MOST};
 
+mod constant;
 #[cfg(test)]
 mod file_tests;
 mod hand;
 #[cfg(test)]
 mod history_tests;
 mod lines;
+mod slack;
+mod stored;
 #[cfg(test)]
 mod tests;
 mod trials;
 
+pub use constant::{best_of_three, made, none_of_two};
 pub use hand::by_hand;
 pub use lines::hard_task;
+pub use slack::sooner;
+pub use stored::store;
 pub use trials::{choices, gain, reaches, total_or_refusal, total_with};
 
 // Every task is worth the same up to a time, and then nothing.

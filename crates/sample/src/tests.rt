@@ -1,9 +1,12 @@
-use crate::{FlatBook, beside, by_hand, choices, gain, reaches, total_or_refusal, total_with};
+use crate::{
+    FlatBook, beside, best_of_three, by_hand, choices, gain, none_of_two, reaches, sooner, store,
+    total_or_refusal, total_with,
+};
 use book::{Book, StandardBook, Sum, Weighted, keenest, last_worth};
 use common::{Expected, Refusal};
 use plan::plan;
 use row::begin;
-use sheet::Sheet;
+use sheet::{Kind, Sheet};
 
 #[test]
 fn a_new_kind_is_layered_like_any_other(rt: HostRuntime) {
@@ -35,6 +38,36 @@ fn a_new_kind_has_a_keenest_task(rt: HostRuntime) {
     assert!(rt; keenest(&sheet, &FlatBook::new(7, 2)) == Some(0));
     assert!(rt; sheet.cut(1, 2).is_ok());
     assert!(rt; keenest(&sheet, &FlatBook::new(7, 2)) == Some(2));
+}
+
+#[test]
+fn constant_sheets_are_planned_as_the_prover_computes(rt: HostRuntime) {
+    assert!(rt; best_of_three() == (Ok(12), [1, 2, 0]));
+    assert!(rt; none_of_two() == Err(Refusal::NoOrder));
+}
+
+#[test]
+fn a_deadline_comes_earlier_as_long_as_some_of_it_is_left(rt: HostRuntime) {
+    let mut sheet = Sheet::new();
+    assert!(rt; sheet.task(5, 5).is_ok() && sheet.task(2, 2).is_ok() && sheet.hard(0, 7).is_ok());
+    assert!(rt; sooner(&mut sheet, 0, 1) == Ok(true));
+    assert!(rt; sooner(&mut sheet, 0, 2) == Ok(false));
+    assert!(rt; sooner(&mut sheet, 0, 1) == Ok(true));
+    assert!(rt; sheet.get(0).is_ok_and(|task| task.kind == Kind::Hard(5)) && sheet.fits());
+    assert!(rt; sooner(&mut sheet, 1, 0) == Ok(false));
+    assert!(rt; sooner(&mut sheet, 2, 0) == Err(Refusal::UnknownTask));
+}
+
+#[test]
+fn what_is_stored_is_made_again(rt: HostRuntime) {
+    let mut sheet = Sheet::new();
+    let mut book = StandardBook::new();
+    assert!(rt; sheet.task(1, 1).is_ok() && book.weight(3, 2).is_ok());
+    let mut memory = [7; 24];
+    assert!(rt; store(&sheet, &book, &mut memory) == Ok((sheet, book)));
+    assert!(rt; memory.starts_with(b"0100010001FD\n070302F4\n"));
+    assert!(rt; memory.ends_with(&[7, 7]));
+    assert!(rt; store(&sheet, &book, &mut [7; 21]) == Err(Refusal::Memory));
 }
 
 #[test]
@@ -225,7 +258,9 @@ fn sixteen_tasks_are_laid_and_weighed(rt: HostRuntime) {
     assert!(rt; row.place(0).is_ok());
     assert_eq!(rt; row.place(16), Err(Refusal::UnknownTask));
     assert!(rt; row.order() == [1, 2, 3, 4, 5, 6, 7, 8, 9, 10, 11, 12, 13, 14, 15, 0].as_slice());
+    assert!(rt; row.count() == 16 && row.placed().index() == 0xffff);
     let full = row.finish();
+    assert!(rt; full.count() == 16);
     assert!(rt; full.order() == [1, 2, 3, 4, 5, 6, 7, 8, 9, 10, 11, 12, 13, 14, 15, 0].as_slice());
     assert!(rt; full.weigh(&FlatBook::new(1000000, 15)) == 15000000);
 }
@@ -238,6 +273,9 @@ fn a_row_keeps_the_sheet_on_which_it_began(rt: HostRuntime) {
     assert!(rt; sheet.task(3, 3).is_ok() && sheet.link(2, 1).is_ok() && sheet.plain(1).is_ok());
     assert_eq!(rt; row.place(3), Err(Refusal::UnknownTask));
     assert_eq!(rt; row.place(2), Err(Refusal::NoOrderSo));
+    assert!(rt; row.count() == 0 && row.placed().index() == 0);
     assert!(rt; row.place(1).is_ok());
-    assert!(rt; row.finish().order() == [1, 0, 2].as_slice());
+    assert!(rt; row.count() == 1 && row.placed().index() == 0b10);
+    let full = row.finish();
+    assert!(rt; full.count() == 3 && full.order() == [1, 0, 2].as_slice());
 }

@@ -1,5 +1,5 @@
 -- `==` finds the equal sheets, and those with the same table, and under the rules of a sheet those that are alike. Assumes nothing.
-use Rattle.std.proofs.Common.{◌≡◌, sym, ap, ap₂, ◌∙◌, Bool, ◌&&◌, ◌==◌, ◌++◌, ℕ, ◌-◌, ◌<◌, arith, length, replicate, take, Decides}
+use Rattle.std.proofs.Common.{◌≡◌, sym, ap, ap₂, ◌∙◌, Bool, ◌&&◌, ◌==◌, ◌++◌, ℕ, ◌-◌, ◌<◌, arith, length, replicate, Decides}
 use Rattle.std.proofs.lemmas.Bool.Decides.{Decides-and, Decides-at, Decides-eqb, Decides-like, nat_tests}
 use Rattle.std.proofs.lemmas.List.{get_or_default, same_lists}
 use Rattle.common.proofs.Sets.{same-set}
@@ -25,6 +25,12 @@ same-sheets a b len tasks =
     let same : a.table ≡ b.table = values_one places.struct (places.the_propositions task.the_row.coded) a.table b.table (λ i. (len i, (tasks i, tt))) in
     values_one sheet.struct (sheet.the_propositions places.the_row.coded) a b (ap (λ p. (p, tt)) same)
 
+-- a sheet holds nothing that its table does not show
+pub same-tables : (a b : Sheet) → table a ≡ table b → a ≡ b
+same-tables a b h =
+    let len : a.table.len ≡ b.table.len = sym (len-back a.table) ∙ ap length h ∙ len-back b.table in
+    same-sheets a b len (sym (tasks-back a.table) ∙ ap₂ (λ xs n. xs ++ replicate (16 - n) blank) h len ∙ tasks-back b.table)
+
 module _ (a b : Sheet) (r : Bool) (is : r ≡ ((a.table.len == b.table.len) && pointwise task-eq.it a.table.tasks b.table.tasks)) where
   parts : Decides r ((a.table.len ≡ b.table.len) × (a.table.tasks ≡ b.table.tasks))
   parts = Decides-at r _ is (Decides-and (a.table.len == b.table.len) _ (Decides-eqb _ _) (pointwise_decides exact-law _ _))
@@ -33,12 +39,7 @@ module _ (a b : Sheet) (r : Bool) (is : r ≡ ((a.table.len == b.table.len) && p
   same-decides = Decides-like _ (λ h. same-sheets a b h.0 h.1) (λ e. (ap (λ (s : Sheet). s.table.len) e, ap (λ (s : Sheet). s.table.tasks) e)) parts
 
   pub tables-decide : Decides r (table a ≡ table b)
-  tables-decide = Decides-like _ (λ h. ap₂ take h.0 h.1) back parts
-    where
-      back : table a ≡ table b → (a.table.len ≡ b.table.len) × (a.table.tasks ≡ b.table.tasks)
-      back h =
-          let len : a.table.len ≡ b.table.len = sym (len-back a.table) ∙ ap length h ∙ len-back b.table in
-          (len, sym (tasks-back a.table) ∙ ap₂ (λ xs n. xs ++ replicate (16 - n) blank) h len ∙ tasks-back b.table)
+  tables-decide = Decides-like _ (ap table) (same-tables a b) same-decides
 
 -- ---- alike tables
 

@@ -6,11 +6,13 @@ use Rattle.common.proofs.Sets.{has-adding, has-removing}
 use Rattle.common.specs.Sets.{adding, removing}
 use Rattle.sheet.proofs.Paths.{up-decides, still-acyclic}
 use Rattle.sheet.proofs.Rules.{Sound, sound-of, linked-put, sound-put, sound-pushed, sound-unlinked}
-use Rattle.sheet.specs.Calls.{Call, task, time, link, cut, hard, soft, plain, verdict, changed, new_task, with_durations, with_before, with_kind}
+use Rattle.sheet.specs.Calls.{verdict, changed, new_task, with_durations, with_before, with_kind}
 use Rattle.sheet.specs.Links.{linked, up}
 use Rattle.sheet.specs.Rules.{InRange}
 use Rattle.sheet.specs.Sheets.{table}
 use Rattle.sheet.specs.Tables.{Table, blank, task_of}
+use Rattle.sheet.specs.declared.call.Call.{Call}
+use Rattle.sheet.specs.declared.call.Call.TheVariants.{Task as task, Time as time, Link as link, Cut as cut, Hard as hard, Soft as soft, Plain as plain}
 use Rattle.sheet.specs.declared.sheet.Sheet.{Sheet}
 use Rattle.sheet.specs.declared.table.Kind.{Kind}
 use Rattle.sheet.specs.declared.table.Kind.TheVariants.{Plain, Soft, Hard}
@@ -21,7 +23,7 @@ marked t r k lt kind due = sound-unlinked t k (with_kind kind (task_of t k)) lt 
 
 pub keeps : (t : Table) (c : Call) → Sound t → verdict t c ≡ 0 → Sound (changed t c)
 unfolding linked
-keeps t (task min max) r v = sound-pushed t (new_task min max) refl r (grind (arith, common_steps)) (λ d e. cc)
+keeps t (task min max) r v = sound-pushed t (new_task min max) refl r (grind (arith, common_steps)) (grind (arith, common_steps)) (λ d e. cc)
 keeps t (time k min max) r v =
     let lt : k < length t = grind (arith, common_steps) in
     sound-unlinked t k (with_durations min max (task_of t k)) lt r (grind (arith, common_steps)) (r.due k blank lt) (λ u h. h)
@@ -50,6 +52,6 @@ keeps t (plain k) r v = marked t r k (grind (arith, common_steps)) Plain (λ d e
 abbrev pub Accepted : Sheet → Call → Table → Type 0
 Accepted s c t = (t ≡ changed (table s) c) × (verdict (table s) c ≡ 0)
 
--- the ghost fields after it
-pub kept : (s : Sheet) (c : Call) (t : Table) → Accepted s c t → Sound t
-kept s c t h = rw h.0 (keeps (table s) c (sound-of s) h.1)
+-- the ghost field after it, as `invariant_of-self` asks for it
+pub kept : (s : Sheet) (c : Call) (t : Table) → Accepted s c t → record { keeps : Sound t }
+kept s c t h = let after : Sound t = rw h.0 (keeps (table s) c (sound-of s) h.1) in record { keeps = after }

@@ -7,3 +7,4 @@ pub mod Ancestors
 pub mod Loads
 pub mod Margins
 pub mod Equal
+pub mod Effects

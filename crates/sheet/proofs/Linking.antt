@@ -9,10 +9,11 @@ use Rattle.common.proofs.Sets.{has-adding, has-removing}
 use Rattle.sheet.proofs.Kept.{Accepted, keeps}
 use Rattle.sheet.proofs.Paths.{Up, carried, reaches-decides, up-decides}
 use Rattle.sheet.proofs.Rules.{Sound, sound-of, linked-put}
-use Rattle.sheet.specs.Calls.{link, cut, verdict, changed, with_before}
+use Rattle.sheet.specs.Calls.{verdict, changed, with_before}
 use Rattle.sheet.specs.Linking.{Linking, Cutting}
 use Rattle.sheet.specs.Links.{Path, one, linked, up}
 use Rattle.sheet.specs.Sheets.{table}
+use Rattle.sheet.specs.declared.call.Call.TheVariants.{Link as link, Cut as cut}
 use Rattle.sheet.specs.declared.sheet.Sheet.{Sheet}
 use Rattle.sheet.specs.Tables.{Table, blank, task_of}
 

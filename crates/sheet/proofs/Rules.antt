@@ -1,5 +1,5 @@
--- The rules of a sheet as one record over its table; what one task more or another in its place keeps. Assumes nothing.
-use Rattle.std.proofs.Common.{◌≡◌, refl, sym, ◌∙◌, true, cond, [], ◌∷◌, ◌++◌, ℕ, ◌<◌, arith, eqb, length, set, All, length-set, get_or-set_other}
+-- The rules of a sheet: what one task more or another in its place keeps. Assumes nothing.
+use Rattle.std.proofs.Common.{◌≡◌, refl, sym, ◌∙◌, true, cond, [], ◌∷◌, ◌++◌, ℕ, ◌<◌, arith, eqb, length, lit≤, set, length-append, length-set, get_or-set_other}
 use Rattle.std.proofs.lemmas.Bool.{both_ways}
 use Rattle.std.proofs.lemmas.Bool.Decides.{nat_tests}
 use Rattle.std.proofs.lemmas.Grind.{common_steps, elements, get_or-set_at}
@@ -9,18 +9,18 @@ use Rattle.common.proofs.Sets.{has-none}
 use Rattle.common.specs.Sets.{has}
 use Rattle.sheet.proofs.Paths.{carried}
 use Rattle.sheet.specs.Links.{Path, one, more, linked}
-use Rattle.sheet.specs.Rules.{Lasts, InRange, Known, Acyclic}
+use Rattle.sheet.specs.Rules.{Lasts, InRange, Acyclic, Keeps}
 use Rattle.sheet.specs.Sheets.{table}
 use Rattle.sheet.specs.Tables.{Table, blank, task_of}
 use Rattle.sheet.specs.declared.sheet.Sheet.{Sheet}
 use Rattle.sheet.specs.declared.table.Task.{Task}
 
--- what the ghost fields of a sheet say of its table, as `invariant_of-self` and `invariant_of-result` ask for it
+-- the rules, by a short name of proofs
 abbrev pub Sound : Table → Type 0
-Sound t = record { lasting : All Lasts t; due : All InRange t; known : Known t; acyclic : Acyclic t }
+Sound t = Keeps t
 
 pub sound-of : (s : Sheet) → Sound (table s)
-sound-of s = record { lasting = s.lasting; due = s.due; known = s.known; acyclic = s.acyclic }
+sound-of s = s.keeps
 
 -- ---- the empty table
 
@@ -31,6 +31,7 @@ unlinked a b l = both_ways _ (has-none a) l
 pub empty_sound : Sound []
 empty_sound =
     record {
+      few = lit≤ tt;
       lasting = All-nil Lasts;
       due = All-nil InRange;
       known = λ a b l. absurd (unlinked a b l);
@@ -49,9 +50,10 @@ module _ (t : Table) (x : Task) (alone : x.before.0 ≡ 0) where
   unfolding linked
   linked-pushed u v = grind (arith, common_steps, elements, alone, get_or_past t v blank, get_or-append_right t (x ∷ []) (length t) v blank refl)
 
-  pub sound-pushed : Sound t → Lasts x → InRange x → Sound (t ++ x ∷ [])
-  sound-pushed r lasts due =
+  pub sound-pushed : Sound t → length t < 16 → Lasts x → InRange x → Sound (t ++ x ∷ [])
+  sound-pushed r less lasts due =
       record {
+        few = omega (arith, length-append t (x ∷ []), less);
         lasting = All-push Lasts t x r.lasting lasts;
         due = All-push InRange t x r.due due;
         known = λ u v l. grind (arith, common_steps, linked-pushed u v, r.known u v);
@@ -68,6 +70,7 @@ module _ (t : Table) (b : ℕ) (x : Task) (there : b < length t) where
   pub sound-put : Sound t → Lasts x → InRange x → ((u : ℕ) → has x.before.0 u ≡ true → u < length t) → Acyclic (set t b x) → Sound (set t b x)
   sound-put r lasts due from acyclic =
       record {
+        few = omega (arith, length-set t b x, r.few);
         lasting = All-set Lasts t b x lasts r.lasting;
         due = All-set InRange t b x due r.due;
         known = λ u v l. grind (arith, nat_tests, linked-put u v, from u, r.known u v, length-set t b x);

@@ -1,5 +1,4 @@
 -- What each call on a sheet answers, and the table that it leaves. Assumes nothing.
---     task, time, ..    the calls: the variants of `Call` in src/call.rt
 --     rows       t c    the refusals that the call may get, by number, each with the test whether it fits
 --     verdict    t c    0 where the call is accepted, else the number of its refusal
 --     changed    t c    the table after the call, where it is accepted
@@ -14,8 +13,8 @@ use Rattle.common.specs.Sets.{adding, removing}
 use Rattle.common.specs.declared.refusal.Refusal.TheVariants.{UnknownTask, SheetFull, Durations, Circle, NoLink, DeadlineRange, OtherKind}
 use Rattle.sheet.specs.Links.{linked, up}
 use Rattle.sheet.specs.Tables.{Table, task_of, is_soft, is_hard}
-pub use Rattle.sheet.specs.declared.call.Call.{Call}
-pub use Rattle.sheet.specs.declared.call.Call.TheVariants.{Task as task, Time as time, Link as link, Cut as cut, Hard as hard, Soft as soft, Plain as plain}
+use Rattle.sheet.specs.declared.call.Call.{Call}
+use Rattle.sheet.specs.declared.call.Call.TheVariants.{Task as task, Time as time, Link as link, Cut as cut, Hard as hard, Soft as soft, Plain as plain}
 use Rattle.sheet.specs.declared.table.Kind.{Kind}
 use Rattle.sheet.specs.declared.table.Kind.TheVariants.{Plain, Soft, Hard}
 use Rattle.sheet.specs.declared.table.Task.{Task}

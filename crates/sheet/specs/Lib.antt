@@ -8,3 +8,4 @@ pub mod Remaining
 pub mod Lists
 pub mod Sheets
 pub mod Texts
+pub mod Effects

@@ -1,17 +1,29 @@
 -- The rules that every sheet keeps, which `Sheet` has in its type, and when two sheets are alike. Assumes nothing.
-use Rattle.std.specs.Prelude.{◌≡◌, true, ℕ, ◌≤◌, ◌<◌, length}
+--     MayLast min max    the rule of durations
+--     MayBeDue d         the rule of deadlines
+--     Lasts x            the durations of the task x keep their rule
+--     InRange x          so does its deadline, where it is hard
+--     Known t            links lead from task to task
+--     Acyclic t          no path closes a circle
+--     Keeps t            the table keeps all the rules
+--     Alike s t          the two tables hold the same
+use Rattle.std.specs.Prelude.{◌≡◌, true, All, ℕ, ◌≤◌, ◌<◌, length}
 use Rattle.sheet.specs.Links.{Path, linked}
 use Rattle.sheet.specs.Tables.{Table, task_of}
 use Rattle.sheet.specs.declared.table.Kind.TheVariants.{Hard}
 use Rattle.sheet.specs.declared.table.Task.{Task}
 
--- the durations of a task: 1 ≤ min ≤ max ≤ 65,535
-abbrev pub Lasts : Task → Type 0
-Lasts x = (1 ≤ x.min) × (x.min ≤ x.max) × (x.max ≤ 65535)
+abbrev pub MayLast : (min max : ℕ) → Type 0
+MayLast min max = (1 ≤ min) × (min ≤ max) × (max ≤ 65535)
 
--- the deadline of a task, where it is hard: 1 ≤ d ≤ 1,048,575
+abbrev pub MayBeDue : ℕ → Type 0
+MayBeDue d = (1 ≤ d) × (d ≤ 1048575)
+
+abbrev pub Lasts : Task → Type 0
+Lasts x = MayLast x.min x.max
+
 abbrev pub InRange : Task → Type 0
-InRange x = (d : ℕ) → x.kind ≡ Hard d → (1 ≤ d) × (d ≤ 1048575)
+InRange x = (d : ℕ) → x.kind ≡ Hard d → MayBeDue d
 
 -- a link leads from a task to a task
 abbrev pub Known : Table → Type 0
@@ -20,6 +32,17 @@ Known t = (a b : ℕ) → linked t a b ≡ true → (a < length t) × (b < lengt
 -- no path leads from a task to itself
 abbrev pub Acyclic : Table → Type 0
 Acyclic t = (k : ℕ) → Path t k k → ⊥
+
+-- all the rules
+pub record Keeps (t : Table) : Type 0 where
+  -- at most sixteen tasks
+  pub few : length t ≤ 16
+  -- of each task, the durations and the deadline
+  pub lasting : All Lasts t
+  pub due : All InRange t
+  -- links, and the paths that they make
+  pub known : Known t
+  pub acyclic : Acyclic t
 
 -- two tables hold the same count of tasks, with the same durations, kinds and links
 pub record Alike (s t : Table) : Type 0 where

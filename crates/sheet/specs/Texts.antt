@@ -1,7 +1,8 @@
 -- What calls and kinds print. Assumes nothing.
 use Rattle.std.specs.Prelude.{List, ℕ, ◌++◌, codes}
 use Rattle.common.specs.Texts.{spaced}
-use Rattle.sheet.specs.Calls.{Call, task, time, link, cut, hard, soft, plain}
+use Rattle.sheet.specs.declared.call.Call.{Call}
+use Rattle.sheet.specs.declared.call.Call.TheVariants.{Task as task, Time as time, Link as link, Cut as cut, Hard as hard, Soft as soft, Plain as plain}
 use Rattle.sheet.specs.declared.table.Kind.{Kind}
 use Rattle.sheet.specs.declared.table.Kind.TheVariants.{Plain, Soft, Hard}
 

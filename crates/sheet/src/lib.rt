@@ -2,9 +2,11 @@
 #![tactic(auto)]
 
 mod call;
+mod laws;
 mod sheet;
 mod table;
 
 pub use call::Call;
+pub use laws::{calls_stand, equal_tables, rules_stand};
 pub use sheet::{Load, Sheet, equal_sheets};
 pub use table::{Kind, Task};

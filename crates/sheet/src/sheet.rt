@@ -1,7 +1,7 @@
 // The sheet: a table of tasks with its rules in its type.
-ghost use Rattle.std.specs.Prelude.{◌≡◌, [], All};
+ghost use Rattle.std.specs.Prelude.{◌≡◌, []};
 ghost use Rattle.sheet.specs.Lists.{listed};
-ghost use Rattle.sheet.specs.Rules.{Acyclic, InRange, Known, Lasts};
+ghost use Rattle.sheet.specs.Rules.{Keeps};
 
 use crate::table::Table;
 
@@ -20,10 +20,7 @@ pub use load::Load;
 #[derive(Clone, Copy, Debug, PartialEq, Eq)]
 pub struct Sheet {
     table: Table,
-    ghost lasting: { All Lasts (listed table) },
-    ghost due: { All InRange (listed table) },
-    ghost known: { Known (listed table) },
-    ghost acyclic: { Acyclic (listed table) },
+    ghost keeps: { Keeps (listed table) },
 }
 
 impl Sheet {

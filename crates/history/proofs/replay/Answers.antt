@@ -1,6 +1,7 @@
 use Rattle.std.proofs.Common.{refl, sym, subst, []}
+use Rattle.history.proofs.Following.{results}
 use Rattle.history.proofs.Histories.{Rest, ended, onward}
-use Rattle.history.proofs.Plans.{best-order, lengths}
+use Rattle.plan.proofs.Stated.{best-order, lengths}
 use Rattle.history.specs.Histories.{Passed, resulting}
 use Rattle.plan.specs.Planned.{Planned}
 use Rattle.history.proofs.replay.Goals as goal
@@ -22,7 +23,10 @@ returns-clause-best g c =
     let end = ended m _ _ h c.loop-call.call-index c.loop-call-test.false _ _ _ c.loop-call.invariant in
     lengths m (resulting h) _ c.plan.new.cells _ c.plan.new.order c.plan.result c.args.cells.now c.args.order.now c.loop-call.auto.cells c.loop-call.auto.order
     (best-order m (resulting h) _ c.plan.new.cells _ c.plan.new.order c.plan.result
-    (subst (λ t. Planned m t c.loop-call.cells c.plan.new.cells c.loop-call.order c.plan.new.order c.plan.result) end.0 c.plan.ensures))
+    (subst (λ t. Planned m t c.loop-call.cells c.plan.new.cells c.loop-call.order c.plan.new.order c.plan.result) end.0 c.plan.ensures.planned))
+
+pub returns-clause-follows : goal.returns-clause-follows
+returns-clause-follows g c = (resulting c.args.history.now, results c.args.history.now, returns-clause-best g c)
 
 pub returns-clause-leaves : goal.returns-clause-leaves
 returns-clause-leaves g c =
@@ -33,5 +37,5 @@ returns-clause-leaves g c =
       c = c.loop-call.cells;
       o = c.loop-call.order;
       calls = end.1;
-      plan = subst (λ t. Planned m t c.loop-call.cells c.plan.new.cells c.loop-call.order c.plan.new.order c.plan.result) end.0 c.plan.ensures;
+      plan = subst (λ t. Planned m t c.loop-call.cells c.plan.new.cells c.loop-call.order c.plan.new.order c.plan.result) end.0 c.plan.ensures.planned;
     }

@@ -1,9 +1,9 @@
-use Rattle.answer.proofs.Totals.{standard-sound}
+use Rattle.book.specs.StandardLaws.{standard-sound}
 use Rattle.file.specs.Loads.{made}
 use Rattle.known.proofs.Answering.{deciding as deciding-answers}
 use Rattle.known.proofs.Deciding.{standing}
 use Rattle.known.proofs.Lines.{deciding as deciding-files}
-use Rattle.known.proofs.Plans.{deciding}
+use Rattle.plan.proofs.Tests.{deciding}
 use Rattle.known.proofs.Rows.{deciding as deciding-rows}
 use Rattle.sheet.proofs.Rules.{sound-of}
 use Rattle.sheet.specs.Sheets.{table}

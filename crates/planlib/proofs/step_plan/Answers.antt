@@ -1,6 +1,7 @@
 use Rattle.std.proofs.Common.{ℕ, ◌<◌, ◌≤◌, arith, length, List, take, Result, Ok, Err, IfOk}
 use Rattle.std.proofs.lemmas.Grind.{common_steps}
-use Rattle.answer.proofs.Totals.{earned-small, standard-sound}
+use Rattle.answer.proofs.Totals.{earned-small}
+use Rattle.book.specs.StandardLaws.{standard-sound}
 use Rattle.book.specs.Worths.{Meaning, Sound}
 use Rattle.common.specs.declared.refusal.Refusal.{Refusal}
 use Rattle.plan.specs.Orders.{expected}
@@ -22,7 +23,7 @@ returns-in-Ok c =
     rw c.in-Ok.ensures
     (record {
       plan = c.plan.result;
-      planned = c.plan.ensures;
+      planned = c.plan.ensures.planned;
       answers = grind (arith, common_steps);
-      apart = totals-small _ _ (standard-sound c.in-Ok.book) (few-listed c.in-Ok.sheet.table) _ _ c.plan.result c.plan.ensures.answer;
+      apart = totals-small _ _ (standard-sound c.in-Ok.book) (few-listed c.in-Ok.sheet.table) _ _ c.plan.result c.plan.ensures.planned.answer;
     })

@@ -1,10 +1,11 @@
 // The calls that change a sheet. Their arguments are plain numbers: types of their own could not hold what is refused.
 ghost use Rattle.std.specs.Prelude.{◌≡◌, IfErr, IfOk, IsFalse, IsTrue, length};
 ghost use Rattle.common.specs.Refusals.{outcome};
-ghost use Rattle.sheet.specs.Calls.{Called, lasts, task, time, link, cut, hard, soft, plain};
+ghost use Rattle.sheet.specs.Calls.{Called, lasts};
 ghost use Rattle.sheet.specs.Linking.{Linking, Cutting};
 ghost use Rattle.sheet.specs.Sheets.{table};
 
+use crate::call::Call;
 use crate::sheet::Sheet;
 use crate::table::{Kind, Task};
 use common::{LATEST, MOST, Refusal};
@@ -27,8 +28,9 @@ fn durations(min: u32, max: u32) -> Result<(u16, u16), Refusal>
 impl Sheet {
     // Adds a plain task, and answers its number.
     pub fn task(&mut self, min: u32, max: u32) -> Result<u8, Refusal>
-        ensures called { Called (table self.old) (table self.new) (task min max) (outcome result) }
+        ensures called { Called (table self.old) (table self.new) (Call.Task min max) (outcome result) }
         ensures gives { IfOk result (λ k. k ≡ length (table self.old)) }
+        ensures kept { IfErr result (λ _. self.new ≡ self.old) }
     {
         let t = self.count();
         if t >= MOST {
@@ -41,7 +43,8 @@ impl Sheet {
 
     // Sets new durations; kind, deadline and links stay.
     pub fn time(&mut self, t: u8, min: u32, max: u32) -> Result<(), Refusal>
-        ensures { Called (table self.old) (table self.new) (time t min max) (outcome result) }
+        ensures called { Called (table self.old) (table self.new) (Call.Time t min max) (outcome result) }
+        ensures kept { IfErr result (λ _. self.new ≡ self.old) }
     {
         let task = self.get(t)?;
         let (min, max) = durations(min, max)?;
@@ -52,8 +55,9 @@ impl Sheet {
     // Puts a before b. A link that is there already is accepted.
     #[tactic(auto, using(crate::proofs::Linking::looking))]
     pub fn link(&mut self, a: u8, b: u8) -> Result<(), Refusal>
-        ensures called { Called (table self.old) (table self.new) (link a b) (outcome result) }
+        ensures called { Called (table self.old) (table self.new) (Call.Link a b) (outcome result) }
         ensures means { Linking (table self.old) (table self.new) a b (outcome result) }
+        ensures kept { IfErr result (λ _. self.new ≡ self.old) }
     {
         let task = self.get(b)?;
         if self.up_set(a)?.contains(b) {
@@ -67,8 +71,9 @@ impl Sheet {
     // Takes that direct link away; any other path from a to b stays.
     #[tactic(auto, using(crate::proofs::Linking::answering), unfolding(crate::specs::Links::linked))]
     pub fn cut(&mut self, a: u8, b: u8) -> Result<(), Refusal>
-        ensures called { Called (table self.old) (table self.new) (cut a b) (outcome result) }
+        ensures called { Called (table self.old) (table self.new) (Call.Cut a b) (outcome result) }
         ensures means { Cutting (table self.old) (table self.new) a b }
+        ensures kept { IfErr result (λ _. self.new ≡ self.old) }
     {
         self.get(a)?;
         let task = self.get(b)?;
@@ -82,7 +87,8 @@ impl Sheet {
 
     // Marks a plain or hard task as hard, to end by the deadline.
     pub fn hard(&mut self, t: u8, deadline: u32) -> Result<(), Refusal>
-        ensures { Called (table self.old) (table self.new) (hard t deadline) (outcome result) }
+        ensures called { Called (table self.old) (table self.new) (Call.Hard t deadline) (outcome result) }
+        ensures kept { IfErr result (λ _. self.new ≡ self.old) }
     {
         let task = self.get(t)?;
         if !(1..=LATEST).contains(&deadline) {
@@ -98,7 +104,8 @@ impl Sheet {
 
     // Marks a plain or soft task as soft.
     pub fn soft(&mut self, t: u8) -> Result<(), Refusal>
-        ensures { Called (table self.old) (table self.new) (soft t) (outcome result) }
+        ensures called { Called (table self.old) (table self.new) (Call.Soft t) (outcome result) }
+        ensures kept { IfErr result (λ _. self.new ≡ self.old) }
     {
         let task = self.get(t)?;
         if matches!(task.kind, Kind::Hard(_)) {
@@ -111,7 +118,8 @@ impl Sheet {
 
     // Takes the mark off.
     pub fn plain(&mut self, t: u8) -> Result<(), Refusal>
-        ensures { Called (table self.old) (table self.new) (plain t) (outcome result) }
+        ensures called { Called (table self.old) (table self.new) (Call.Plain t) (outcome result) }
+        ensures kept { IfErr result (λ _. self.new ≡ self.old) }
     {
         let task = self.get(t)?;
         let kind = Kind::Plain;

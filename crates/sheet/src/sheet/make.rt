@@ -1,5 +1,5 @@
 // Any call, given as a value.
-ghost use Rattle.std.specs.Prelude.{◌≡◌, IfOk};
+ghost use Rattle.std.specs.Prelude.{◌≡◌, IfErr, IfOk};
 ghost use Rattle.common.specs.Refusals.{outcome};
 ghost use Rattle.sheet.specs.Calls.{Called, new_number};
 ghost use Rattle.sheet.specs.Sheets.{table};
@@ -13,6 +13,7 @@ impl Sheet {
     pub fn make(&mut self, call: Call) -> Result<Option<u8>, Refusal>
         ensures called { Called (table self.old) (table self.new) call (outcome result) }
         ensures gives { IfOk result (λ number. number ≡ new_number (table self.old) call) }
+        ensures kept { IfErr result (λ _. self.new ≡ self.old) }
     {
         // Calls are data, not closures: the definitions read them.
         match call {

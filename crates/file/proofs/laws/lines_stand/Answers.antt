@@ -1,6 +1,6 @@
 use Rattle.file.proofs.Coding.{decoded-encoded}
 use Rattle.file.proofs.Cuts.{one_cutting}
-use Rattle.file.proofs.Sayings.{decoded_only, one_reading, read_back}
+use Rattle.file.proofs.Sayings.{decoded_only, one_reading, one_saying, read_back}
 use Rattle.file.proofs.laws.lines_stand.Goals as goal
 
 pub returns-clause-one_cutting : goal.returns-clause-one_cutting
@@ -17,3 +17,6 @@ returns-clause-decoded_only c = decoded_only
 
 pub returns-clause-read_back : goal.returns-clause-read_back
 returns-clause-read_back c = read_back
+
+pub returns-clause-one_saying : goal.returns-clause-one_saying
+returns-clause-one_saying c = one_saying

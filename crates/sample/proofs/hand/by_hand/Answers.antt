@@ -6,7 +6,7 @@ use Rattle.plan.specs.Orders.{Lawful}
 use Rattle.plan.specs.Planned.{Ordered, Planned}
 use Rattle.plan.specs.Totals.{total}
 use Rattle.row.proofs.Firsts.{first-whole}
-use Rattle.row.specs.Laid.{laid, order}
+use Rattle.row.specs.Laid.{laid, order_of}
 use Rattle.row.specs.Rows.{First, Leads}
 use Rattle.sheet.specs.Sheets.{table}
 use Rattle.sheet.specs.Tables.{Table}
@@ -34,7 +34,7 @@ module _ (g : Over) (c : After-branch-lay g) where
   all = omega (arith, c.from.ensures, c.count.ensures.counts)
 
   best : Ordered (g.B.Book.meaning c.args.book.now) (table c.args.sheet.now) c.args.order.now c.plan.new.order c.in_ok-plan.field-0
-  best = ordered _ _ _ _ _ _ _ _ c.plan.ensures c.in_ok-plan.was
+  best = ordered _ _ _ _ _ _ _ _ c.plan.ensures.planned c.in_ok-plan.was
 
   -- plan's order is lawful on the row's sheet, and the row begins empty
   leads : Leads (table c.begin-begun.result.0.sheet) (laid c.begin-begun.result.0 ++ take (c.from.result - 0) c.plan.new.order)
@@ -52,7 +52,7 @@ returns g c =
     let t = table c.args.sheet.now in
     let row : laid c.lay.new.row ≡ take (length t) c.plan.new.order = rw (c.in_ok-lay.ensures.lays refl, c.begin-begun.ensures.empty, all g d) refl in
     let same : c.lay.new.row.sheet ≡ c.args.sheet.now = c.lay.ensures.sheet ∙ sheet g d in
-    let first = subst₂ (λ (s : Sheet) row. First (table s) row (order c.finish.result)) same row c.finish.ensures.first in
-    let is = first-whole t (take (length t) c.plan.new.order) (order c.finish.result) (best g d).best.lawful first in
+    let first = subst₂ (λ (s : Sheet) row. First (table s) row (order_of c.finish.result)) same row c.finish.ensures.first in
+    let is = first-whole t (take (length t) c.plan.new.order) (order_of c.finish.result) (best g d).best.lawful first in
     let weighs = c.weigh.ensures.total ∙ ap₂ (λ (s : Sheet) o. total m (table s) o) (c.finish.ensures.sheet ∙ same) is in
-    weighed _ _ _ _ _ _ _ _ c.plan.ensures c.in_ok-plan.was _ ((best g d).totals ∙ sym weighs)
+    weighed _ _ _ _ _ _ _ _ c.plan.ensures.planned c.in_ok-plan.was _ ((best g d).totals ∙ sym weighs)

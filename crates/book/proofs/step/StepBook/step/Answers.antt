@@ -1,6 +1,6 @@
 use Rattle.std.proofs.Common.{arith}
 use Rattle.std.proofs.lemmas.Grind.{common_steps}
-use Rattle.book.proofs.Steps.{steps-at, stepped-means, written}
+use Rattle.book.proofs.Steps.{steps-at, stepped-means, stepped-within, written}
 use Rattle.book.proofs.step.StepBook.step.Goals as goal
 
 pub returns-clause-answers : goal.returns-clause-answers
@@ -12,3 +12,6 @@ returns-clause-answers c =
 
 pub returns-clause-means : goal.returns-clause-means
 returns-clause-means c = stepped-means c.args.self.now _ _ _ _ (returns-clause-answers c)
+
+pub returns-clause-within : goal.returns-clause-within
+returns-clause-within c = stepped-within c.args.self.now _ _ _ _ (returns-clause-answers c)

@@ -4,7 +4,7 @@ use Rattle.std.proofs.lemmas.List.{length-append}
 use Rattle.std.specs.Int.RustNames.{count_ones}
 use Rattle.row.proofs.Firsts.{first-lowest, first-next, none-more}
 use Rattle.row.proofs.Held.{counts, ends, not-whole, whole}
-use Rattle.row.specs.Laid.{laid, order}
+use Rattle.row.specs.Laid.{laid, order_of}
 use Rattle.row.specs.Rows.{First}
 use Rattle.sheet.proofs.Tables.{few-listed}
 use Rattle.sheet.specs.Sheets.{table}
@@ -59,7 +59,7 @@ pub returns-clause-first : goal.returns-clause-first
 returns-clause-first c =
     let x = c.loop.self in
     let d = (goal.at.returns-clause-first c).After-order-1 in
-    c.loop.invariant.first (order c.new.result)
+    c.loop.invariant.first (order_of c.new.result)
     (subst₂ (λ (s : Sheet) (o : List ℕ). First (table c.args.self.sheet) (laid x) (take (length (table s)) o)) (sym c.new.ensures.sheet) (sym c.new.ensures.order)
     (subst (λ (s : Sheet). First (table s) (laid x) (take (length (table x.sheet)) x.order)) c.loop.invariant.sheet (end d)))
 

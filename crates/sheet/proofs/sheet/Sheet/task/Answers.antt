@@ -1,8 +1,8 @@
 use Rattle.std.proofs.Common.{arith}
 use Rattle.std.proofs.lemmas.Grind.{common_steps}
-use Rattle.sheet.specs.Calls.{task}
+use Rattle.sheet.specs.declared.call.Call.TheVariants.{Task}
 use Rattle.sheet.proofs.Kept.{kept}
 use Rattle.sheet.proofs.sheet.Sheet.task.Goals as goal
 
 pub invariant_of-self : goal.invariant_of-self
-invariant_of-self c = kept c.args.self.now (task c.in_ok-min.min c.in_ok-min.max) _ (grind (arith, common_steps))
+invariant_of-self c = kept c.args.self.now (Task c.in_ok-min.min c.in_ok-min.max) _ (grind (arith, common_steps))

@@ -9,4 +9,4 @@ pub returns-clause-alike : goal.returns-clause-alike
 returns-clause-alike c =
     let a = c.args.a.now in
     let b = c.args.b.now in
-    Decides-like _ (same-alike _ _) (alike-same _ _ a.known b.known) (tables-decide a b _ c.eq.ensures)
+    Decides-like _ (same-alike _ _) (alike-same _ _ a.keeps.known b.keeps.known) (tables-decide a b _ c.eq.ensures)

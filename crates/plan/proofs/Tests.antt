@@ -1,8 +1,8 @@
--- The tests of plans of specs/Plans.antt decide what the definitions say: every continuation is in the list of orders. Assumes
+-- The tests of plans of specs/Tests.antt decide what the definitions say: every continuation is in the list of orders. Assumes
 -- nothing.
 use Rattle.std.proofs.Common.{◌≡◌, refl, sym, ap, ◌∙◌, Bool, true, false, not, ◌&&◌, ◌||◌, ◌⊎◌, inl, inr, ⊎_elim, cond, List, [], ◌∷◌, map, ℕ, zero, suc, ◌+◌, ◌-◌, ◌≤◌, ◌<◌, arith, eqb, length}
 use Rattle.std.proofs.lemmas.Bool.{and_parts, both_ways, cases_Bool, cases_eq, not-false, not-true}
-use Rattle.std.proofs.lemmas.Bool.Decides.{Decides-and, Decides-at, Decides-eqb, Decides-like, Decides-ltb, Decides-or, nat_tests}
+use Rattle.std.proofs.lemmas.Bool.Decides.{Decides-and, Decides-at, Decides-below_and, Decides-eqb, Decides-like, Decides-ltb, Decides-or, nat_tests}
 use Rattle.std.proofs.lemmas.Grind.{common_steps}
 use Rattle.std.proofs.lemmas.List.Folds.{list_all-append, list_all-map}
 use Rattle.std.proofs.lemmas.Slice.Eq.{bytes_eq-Decides}
@@ -11,8 +11,7 @@ use Rattle.std.specs.Option.{option_map_or}
 use Rattle.std.specs.Prelude.{Decides, bytes_eq, filter, flat_map, nat_le}
 use Rattle.book.specs.Worths.{Meaning}
 use Rattle.common.specs.Sets.{adding, any, has}
-use Rattle.known.proofs.Deciding.{none-below}
-use Rattle.known.specs.Plans.{PlanTests, before, behind, following, goes, is_best, is_cell, may, none_lawful, orders}
+use Rattle.plan.specs.Tests.{PlanTests, before, behind, following, goes, is_best, is_cell, may, none_lawful, orders}
 use Rattle.plan.proofs.Orders.{end-all, ended, goes-on, lawful-from, lawful-to, went-may, went-rest}
 use Rattle.plan.proofs.Walks.{length-left}
 use Rattle.plan.specs.Cells.{Cell, left}
@@ -25,6 +24,10 @@ use Rattle.sheet.specs.Margins.{deadline_of}
 use Rattle.sheet.specs.Tables.{Table, load_of, task_of}
 use Rattle.sheet.specs.declared.table.Kind.{Kind}
 use Rattle.sheet.specs.declared.table.Kind.TheVariants.{Plain, Soft, Hard}
+
+-- what holds of each number below n, where it holds of each number that fails p
+pub none-below : (n : ℕ) (p : ℕ → Bool) (P : ℕ → Type 0) → ((k : ℕ) → Decides (not (p k)) (P k)) → Decides (not (any n p)) ((k : ℕ) → k < n → P k)
+none-below n p P each = Decides-below_and (λ k. not (p k)) P (λ k. not (any k p)) each refl (λ k. grind arith) n
 
 -- ---- the orders of a list that pass q
 
@@ -148,7 +151,7 @@ module _ (t : Table) (r : Sound t) where
       (Decides-like _ (λ h o l. h o (lawful-to t o l)) (λ f o c. f o (lawful-from t o c)) (each 0 (λ o. false) (λ o. ⊥) (λ o. (λ h. absurd (cc), λ b. absurd b))))
 
   module _ (m : Meaning) where
-    cell : (s v : ℕ) → Decides (is_cell m t s v) (Cell m t s v)
+    pub cell : (s v : ℕ) → Decides (is_cell m t s v) (Cell m t s v)
     cell s v =
         Decides-like _
         (λ h. record { bound = h.0; met = h.1 })

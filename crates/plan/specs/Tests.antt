@@ -10,13 +10,20 @@
 --     is_cell m t s v      the cell of s holds v
 --     none_lawful t        no order is lawful
 --     PlanTests t          these tests, which compute, find exactly what the relations of plans say
-use Rattle.std.specs.Prelude.{◌≡◌, Decides, Bool, true, false, not, ◌&&◌, ◌||◌, List, [], ◌∷◌, ℕ, zero, suc, ◌+◌, ◌-◌, ◌==◌, nat_le, nat_lt, cond, bytes_eq, filter, flat_map, map, length}
+--     Found m t ..         they find exactly what plan answers and leaves: plan answers r, and leaves the cells cells' and the order
+--                          buffer order'
+--     TestsAnswer t        they do of every call of plan on the table t for which memory suffices
+use Rattle.std.specs.Prelude.{◌≡◌, Decides, Bool, true, false, not, ◌&&◌, ◌||◌, List, [], ◌∷◌, ℕ, zero, suc, ◌+◌, ◌-◌, ◌^◌, ◌<◌, ◌==◌, nat_le, nat_lt, cond, bytes_eq, filter, flat_map, map, length, slice_index, Result, Ok, Err}
 use Rattle.std.specs.List.{list_all, list_any, range_with_len}
 use Rattle.std.specs.Option.{option_map_or}
 use Rattle.book.specs.Worths.{Meaning}
 use Rattle.common.specs.Sets.{adding, any, has}
+use Rattle.common.specs.declared.refusal.Refusal.{Refusal}
+use Rattle.common.specs.declared.refusal.Refusal.TheVariants.{NoOrder}
+use Rattle.plan.specs.BestOrder.{answered}
 use Rattle.plan.specs.Cells.{Cell, left}
 use Rattle.plan.specs.Orders.{Continuation, NoLawful, Order, maximum}
+use Rattle.plan.specs.Planned.{Planned, Suffices}
 use Rattle.plan.specs.Totals.{Best, total}
 use Rattle.sheet.specs.Links.{linked}
 use Rattle.sheet.specs.Margins.{deadline_of}
@@ -64,3 +71,16 @@ pub record PlanTests (t : Table) : Type 0 where
   pub best : (m : Meaning) (o : Order) (v : ℕ) → Decides (is_best m t o v) (Best m t o × (v ≡ total m t o))
   pub cell : (m : Meaning) (s v : ℕ) → Decides (is_cell m t s v) (Cell m t s v)
   pub none : Decides (none_lawful t) (NoLawful t)
+
+pub record Found (m : Meaning) (t : Table) (cells' order' : List ℕ) (r : Result ℕ Refusal) : Type 0 where
+  -- o is the best order and totals v, exactly where v is answered and o stands at the front of the buffer
+  pub best : (o : Order) (v : ℕ) → Decides (is_best m t o v) ((r ≡ Ok v) × (answered t order' ≡ o))
+  -- no order is lawful, exactly where that is answered
+  pub none : Decides (none_lawful t) (r ≡ Err NoOrder)
+  -- the cell of s holds v, exactly where v is left there
+  pub cell : (s v : ℕ) → s < 2 ^ length t → Decides (is_cell m t s v) (slice_index cells' s ≡ v)
+
+abbrev pub TestsAnswer : Table → Type 0
+TestsAnswer t =
+    (m : Meaning) (cells cells' order order' : List ℕ) (r : Result ℕ Refusal) →
+    Planned m t cells cells' order order' r → Suffices t cells order → Found m t cells' order' r
