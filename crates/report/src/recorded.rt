@@ -19,7 +19,7 @@ pub struct Recorded<'a> {
 }
 
 impl<'a> Recorded<'a> {
-    ghost use Rattle.std.specs.Prelude.{[], IfOk, MatchResult, Ok, Err};
+    ghost use Rattle.std.specs.Prelude.{[], ◌∷◌, ◌++◌, IfErr, IfOk, MatchResult, Ok, Err};
     ghost use Rattle.common.specs.Refusals.{outcome};
     ghost use Rattle.file.specs.Faults.{figures};
     ghost use Rattle.file.specs.Loads.{loaded, made};
@@ -54,11 +54,13 @@ impl<'a> Recorded<'a> {
         Ok(Ok((Recorded { sheet, history }, book)))
     }
 
-    // Makes the call on the sheet.
+    // Makes the call on the sheet, and answers what the sheet does; the sheet stays where there is no memory to record it.
     #[tactic(auto, using(std::proofs::lemmas::List::Sums::fold_push))]
     pub fn make(&mut self, call: sheet::Call) -> Result<Result<Option<u8>, Refusal>, AllocError>
-        ensures { IfOk result (λ answer.
+        ensures called { IfOk result (λ answer.
             Called (table self.old.sheet) (table self.new.sheet) call (outcome answer)) }
+        ensures records { IfOk result (λ _. self.new.history.items ≡ self.old.history.items ++ Call.Sheet call ∷ []) }
+        ensures kept { IfErr result (λ _. self.new.sheet ≡ self.old.sheet) }
     {
         self.history.push(Call::Sheet(call))?;
         Ok(self.sheet.make(call))
@@ -73,6 +75,7 @@ impl<'a> Recorded<'a> {
         Ok(())
     }
 
+    // The sheet as it is now.
     pub fn sheet(&self) -> &Sheet
         ensures { result.now ≡ self.now.sheet }
     {
