@@ -14,7 +14,7 @@ use Rattle.book.specs.StepLaws.{parts}
 
 -- ---- one step more
 
-stepped-more : (ss : List Step) (x : Step) → stepped ss ≡ true → stepped (ss ++ x ∷ []) ≡ (in_limits x && option_map_or (λ s. descends s x) (slice_get ss (length ss - 1)) true)
+pub stepped-more : (ss : List Step) (x : Step) → stepped ss ≡ true → stepped (ss ++ x ∷ []) ≡ (in_limits x && option_map_or (λ s. descends s x) (slice_get ss (length ss - 1)) true)
 unfolding stepped
 stepped-more [] x ok = grind (arith, common_steps)
 stepped-more (s ∷ []) x ok = grind (arith, common_steps)

@@ -10,3 +10,4 @@ pub mod WorthLaws
 pub mod StandardLaws
 pub mod Keenest
 pub mod Texts
+pub mod EqualLaws

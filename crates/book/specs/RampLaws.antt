@@ -1,5 +1,5 @@
 -- The laws of ramps: what they mean is sound. No contract cites them. Assumes nothing.
-use Rattle.std.proofs.Common.{◌≡◌, ap, subst, true, ℕ, ◌-◌, ◌*◌, ◌/◌, ◌≤◌, ◌<◌, mul-le-mul_left, mul_comm, div-mul-le_self, le_trans, arith, Option, Some, None}
+use Rattle.std.proofs.Common.{◌≡◌, ap, subst, true, List, ℕ, ◌-◌, ◌*◌, ◌/◌, ◌≤◌, ◌<◌, mul-le-mul_left, mul_comm, div-mul-le_self, le_trans, arith, length, Option, Some, None}
 use Rattle.std.proofs.Math.Nat.{div-le_of_le-mul}
 use Rattle.std.proofs.lemmas.Grind.{common_steps}
 use Rattle.std.proofs.lemmas.List.{get_or_past}
@@ -34,10 +34,17 @@ ramp-falls : (o : Option Ramp) (a b : ℕ) → keeps_rule o ≡ true → a ≤ b
 ramp-falls None a b ok h = omega arith
 ramp-falls (Some r) a b ok h = slope-falls r.peak r.knee r.foot (grind (arith, common_steps)) a b h
 
-pub ramps-sound : (x : RampBook) → Sound (ramp_meaning (ramps_in x))
-ramps-sound x =
+-- a task above the last of the list has no ramp
+pub no-ramp : (rs : List (Option Ramp)) (task at : ℕ) → length rs ≡ 16 → 16 ≤ task → ramp_meaning rs task at ≡ 0
+no-ramp rs task at whole h = ap (λ o. ramp_worth o at) (get_or_past rs task None (omega arith))
+
+pub listed-ramps-sound : (rs : List (Option Ramp)) → length rs ≡ 16 → ((k : ℕ) → keeps_rule (ramp_of rs k) ≡ true) → Sound (ramp_meaning rs)
+listed-ramps-sound rs whole ok =
     record {
-      bounded = λ task at. ramp-low (ramp_of x.ramps task) at (x.sound task);
-      falls = λ task a b. ramp-falls (ramp_of x.ramps task) a b (x.sound task);
-      bare = λ task at h. ap (λ o. ramp_worth o at) (get_or_past x.ramps task None (omega (arith, x.whole)));
+      bounded = λ task at. ramp-low (ramp_of rs task) at (ok task);
+      falls = λ task a b. ramp-falls (ramp_of rs task) a b (ok task);
+      bare = λ task at. no-ramp rs task at whole;
     }
+
+pub ramps-sound : (x : RampBook) → Sound (ramp_meaning (ramps_in x))
+ramps-sound x = listed-ramps-sound x.ramps x.whole x.sound

@@ -1,5 +1,5 @@
 -- The laws of steps: what they mean is sound. No contract cites them. Assumes nothing.
-use Rattle.std.proofs.Common.{◌≡◌, refl, ap, true, List, [], ◌∷◌, ℕ, zero, suc, ◌≤◌, arith, map}
+use Rattle.std.proofs.Common.{◌≡◌, ◌∙◌, refl, ap, true, List, [], ◌∷◌, ℕ, zero, suc, ◌≤◌, arith, if◌then◌else◌, length, map, nat_le}
 use Rattle.std.proofs.lemmas.Grind.{common_steps}
 use Rattle.std.proofs.lemmas.List.{get_or_past, length-map}
 use Rattle.book.specs.Lists.{steps_in, used}
@@ -15,7 +15,14 @@ unfolding stepped
 parts s [] ok = (ok, refl)
 parts s (x ∷ ss) ok = grind (arith, common_steps)
 
-steps-low : (ss : List Step) (at : ℕ) → stepped ss ≡ true → steps_worth ss at ≤ top
+-- without steps a task is worth nothing; with some, the first if it reaches the time, and else what those behind it are
+pub steps-none : (at : ℕ) → steps_worth [] at ≡ 0
+steps-none at = refl
+
+pub steps-first : (s : Step) (ss : List Step) (at : ℕ) → steps_worth (s ∷ ss) at ≡ (if nat_le at s.until then s.worth else steps_worth ss at)
+steps-first s ss at = grind (arith, common_steps)
+
+pub steps-low : (ss : List Step) (at : ℕ) → stepped ss ≡ true → steps_worth ss at ≤ top
 steps-low [] at ok = omega arith
 steps-low (s ∷ ss) at ok =
     let both = parts s ss ok in
@@ -30,7 +37,7 @@ behind-low s (x ∷ ss) at ok =
     let low = behind-low x ss at (parts s (x ∷ ss) ok).1 in
     grind (arith, common_steps)
 
-steps-fall : (ss : List Step) (a b : ℕ) → stepped ss ≡ true → a ≤ b → steps_worth ss b ≤ steps_worth ss a
+pub steps-fall : (ss : List Step) (a b : ℕ) → stepped ss ≡ true → a ≤ b → steps_worth ss b ≤ steps_worth ss a
 steps-fall [] a b ok h = omega arith
 steps-fall (s ∷ ss) a b ok h =
     let low = behind-low s ss b ok in
@@ -43,11 +50,17 @@ each-stepped [] k = refl
 each-stepped (own ∷ all) zero = own.sound
 each-stepped (own ∷ all) (suc k) = each-stepped all k
 
-pub steps-sound : (x : StepBook) → Sound (step_meaning (steps_in x))
-steps-sound x =
-    let rule = each-stepped x.steps in
+-- a task above the last of the list has no steps
+pub no_step : (all : List (List Step)) (task at : ℕ) → length all ≡ 16 → 16 ≤ task → step_meaning all task at ≡ 0
+no_step all task at whole h = ap (λ ss. steps_worth ss at) (get_or_past all task [] (omega arith))
+
+pub listed-steps-sound : (all : List (List Step)) → length all ≡ 16 → ((k : ℕ) → stepped (steps_of all k) ≡ true) → Sound (step_meaning all)
+listed-steps-sound all whole ok =
     record {
-      bounded = λ task at. steps-low (steps_of (steps_in x) task) at (rule task);
-      falls = λ task a b. steps-fall (steps_of (steps_in x) task) a b (rule task);
-      bare = λ task at h. ap (λ ss. steps_worth ss at) (get_or_past (steps_in x) task [] (omega (arith, length-map x.steps used, x.whole)));
+      bounded = λ task at. steps-low (steps_of all task) at (ok task);
+      falls = λ task a b. steps-fall (steps_of all task) a b (ok task);
+      bare = λ task at. no_step all task at whole;
     }
+
+pub steps-sound : (x : StepBook) → Sound (step_meaning (steps_in x))
+steps-sound x = listed-steps-sound (steps_in x) (length-map x.steps used ∙ x.whole) (each-stepped x.steps)

@@ -83,6 +83,12 @@ pub fn widest_product() -> (u32, u32)
     (book.worth(0, Expected::from(1)), last_worth(&book, 0))
 }
 
+// Step books with the same steps for each task are the same value: a step book holds nothing else.
+#[tactic(auto, using(crate::proofs::Equality::same_steps))]
+pub fn equal_steps(a: &StepBook, b: &StepBook)
+    ensures { steps_in a.now ≡ steps_in b.now → a.now ≡ b.now }
+{}
+
 // Standard books that hold the same are the same value.
 #[tactic(auto, using(crate::proofs::Equality::same_contents))]
 pub fn equal_contents(a: &StandardBook, b: &StandardBook)
@@ -91,6 +97,7 @@ pub fn equal_contents(a: &StandardBook, b: &StandardBook)
 
 // Equal books are the same value, and have the same curves and weights. A derived `==` has no clause of its own, so this says
 // what it finds.
+#[tactic(auto, using(crate::specs::EqualLaws::standard_books_exact, crate::proofs::Equality::standard_books_alike))]
 pub fn equal_books(a: &StandardBook, b: &StandardBook) -> bool
     ensures same { IsTrue result ↔ (a.now ≡ b.now) }
     ensures alike { IsTrue result ↔ Alike (contents a.now) (contents b.now) }

@@ -104,3 +104,9 @@ impl Book for RampBook {
 impl Exact for Ramp {
     ghost exact = { Prim.search (comparing, rules) };
 }
+
+impl Exact for RampBook {
+    ghost use Rattle.book.specs.EqualLaws.{ramp_books_exact};
+
+    ghost exact = { ramp_books_exact };
+}

@@ -12,7 +12,7 @@ use crate::call::Call;
 use crate::layers::{Sum, Weighted};
 use crate::ramp::{Ramp, RampBook};
 use crate::step::{Step, StepBook};
-use common::{Expected, Refusal};
+use common::{Exact, Expected, Refusal};
 
 // Equal books are equal values.
 #[derive(Clone, Copy, Debug, PartialEq, Eq)]
@@ -125,4 +125,10 @@ impl Book for StandardBook {
     {
         self.layers.worth(task, at)
     }
+}
+
+impl Exact for StandardBook {
+    ghost use Rattle.book.specs.EqualLaws.{standard_books_exact};
+
+    ghost exact = { standard_books_exact };
 }

@@ -177,3 +177,9 @@ impl Book for StepBook {
 impl Exact for Step {
     ghost exact = { Prim.search (comparing, rules) };
 }
+
+impl Exact for StepBook {
+    ghost use Rattle.book.specs.EqualLaws.{step_books_exact};
+
+    ghost exact = { step_books_exact };
+}

@@ -35,7 +35,7 @@ same-set a b same = same_from_bits a b (λ u. grind (arith, nat_tests, same u, b
 
 -- ---- one more and one less
 
-or-adding : (s t : ℕ) → bit_or s (2 ^ t) ≡ adding s t
+pub or-adding : (s t : ℕ) → bit_or s (2 ^ t) ≡ adding s t
 unfolding has
 or-adding s t = grind (arith, nat_tests, or_add_and s (2 ^ t), and_pow s t, bit_at-lt s t)
 

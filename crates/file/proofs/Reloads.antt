@@ -1,12 +1,9 @@
 -- What is saved is loaded as what was saved. Assumes nothing.
-use Rattle.std.proofs.Common.{◌≡◌, refl, ap, subst, ◌∙◌, ◌==◌, if◌then◌else◌, List, [], ◌∷◌, ◌++◌, ℕ, suc, ◌≤◌, MatchResult, Option, Some, None, Result, Ok, Err, ap₂, arith, drop, length, map, take}
+use Rattle.std.proofs.Common.{◌≡◌, ap, subst, ◌∙◌, ◌==◌, if◌then◌else◌, List, [], ◌∷◌, ◌++◌, ℕ, suc, ◌≤◌, MatchResult, Option, Some, None, Result, Ok, Err, ap₂, arith, drop, length, map, take}
 use Rattle.std.proofs.Math.Seq.{take-append_seam}
 use Rattle.std.proofs.lemmas.List.{append_assoc}
 use Rattle.std.specs.Result.{result_ok}
-use Rattle.book.proofs.Equality.{alike-decide, books-decide}
-use Rattle.book.specs.Ramps.{ramp_of}
-use Rattle.book.specs.Steps.{steps_of}
-use Rattle.book.specs.Weights.{weight_of}
+use Rattle.book.proofs.Equality.{same_contents}
 use Rattle.common.specs.declared.refusal.Refusal.{Refusal}
 use Rattle.book.specs.Standard.{Contents, contents, nothing}
 use Rattle.book.specs.declared.standard.StandardBook.{StandardBook}
@@ -24,7 +21,7 @@ use Rattle.file.specs.Frames.{Frame}
 use Rattle.file.specs.Loads.{Made, after, and_then, call_of, layer, loaded, made, nothing_made, run, verdict}
 use Rattle.file.specs.Saved.{each, frames, hard_frame, links_from, ramp_frame, saved, soft_frame, step_frames, task_frame, weight_frame, Written}
 use Rattle.file.specs.Stopping.{OneLoad}
-use Rattle.sheet.proofs.Equal.{same-decides, tables-decide}
+use Rattle.sheet.proofs.Equal.{same_tables}
 use Rattle.sheet.specs.Sheets.{table}
 use Rattle.sheet.specs.Tables.{Table}
 use Rattle.sheet.specs.declared.sheet.Sheet.{Sheet}
@@ -102,26 +99,19 @@ pub saved-some : (text out out' : List ℕ) (r : Result ℕ Refusal) → length 
 saved-some text out out' (Ok n) room w is = grind (arith, is)
 saved-some text out out' (Err e) room w is = omega (arith, room, w.1)
 
--- ---- a sheet is its table, a book its contents
-
-pub same-table : (a b : Sheet) → table a ≡ table b → a ≡ b
-same-table a b e = (same-decides a b _ refl).0 ((tables-decide a b _ refl).1 e)
-
-pub same-contents : (a b : StandardBook) → contents a ≡ contents b → a ≡ b
-same-contents a b e =
-    (books-decide a b).0 ((alike-decide a b).1 (record { ramps = λ k lt. ap (λ (c : Contents). ramp_of c.ramps k) e; steps = λ k lt. ap (λ (c : Contents). steps_of c.steps k) e; weights = λ k lt. ap (λ (c : Contents). weight_of c.weights k) e }))
+-- ---- a load has one answer
 
 -- what one file is loaded as
 pub one_load : OneLoad
 one_load file s s' b b' is also =
     let one : made s b ≡ made s' b' = cc in
-    (same-table s s' (ap (λ (m : Made). m.tasks) one), same-contents b b' (ap (λ (m : Made). m.worths) one))
+    (same_tables s s' (ap (λ (m : Made). m.tasks) one), same_contents b b' (ap (λ (m : Made). m.worths) one))
 
 pub loads_only : (s : Sheet) (x : StandardBook) → LoadsOnly s x
 loads_only s x s' x' is = one_load (saved (table s) (contents x)) s' s x' x is (saved_loads s x)
 
 pub same-made : (s s' : Sheet) (x x' : StandardBook) → made s x ≡ made s' x' → ◌≡◌ {A = Option (Sheet × StandardBook)} (Some (s, x)) (Some (s', x'))
-same-made s s' x x' e = ap₂ (λ a b. Some (a, b)) (same-table s s' (ap (λ (m : Made). m.tasks) e)) (same-contents x x' (ap (λ (m : Made). m.worths) e))
+same-made s s' x x' e = ap₂ (λ a b. Some (a, b)) (same_tables s s' (ap (λ (m : Made). m.tasks) e)) (same_contents x x' (ap (λ (m : Made). m.worths) e))
 
 -- what a file of this sheet and this book is loaded as
 pub loads-same : (file : List ℕ) (s : Sheet) (x : StandardBook) → loaded file ≡ Ok (made s x) → (r : Result (Sheet × StandardBook) Fault)

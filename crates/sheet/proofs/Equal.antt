@@ -1,49 +1,34 @@
--- `==` finds the equal sheets, and those with the same table, and under the rules of a sheet those that are alike. Assumes nothing.
-use Rattle.std.proofs.Common.{◌≡◌, sym, ap, ap₂, ◌∙◌, Bool, ◌&&◌, ◌==◌, ◌++◌, ℕ, ◌-◌, ◌<◌, arith, length, replicate, Decides}
-use Rattle.std.proofs.lemmas.Bool.Decides.{Decides-and, Decides-at, Decides-eqb, Decides-like, nat_tests}
+-- Sheets with the same table are the same, and so are alike sheets, under the rules of a sheet. Assumes nothing.
+use Rattle.std.proofs.Common.{◌≡◌, sym, ap, ap₂, ◌∙◌, ◌++◌, ℕ, ◌-◌, ◌<◌, arith, length, replicate}
+use Rattle.std.proofs.lemmas.Bool.Decides.{Decides-like, nat_tests}
+use Rattle.std.specs.Prelude.{◌↔◌, IsTrue}
 use Rattle.std.proofs.lemmas.List.{get_or_default, same_lists}
 use Rattle.common.proofs.Sets.{same-set}
 use Rattle.sheet.proofs.Tables.{len-back, tasks-back}
+use Rattle.sheet.specs.EqualLaws.{same-places, same-sheets, sheets_exact}
 use Rattle.sheet.specs.Links.{linked}
+use Rattle.sheet.specs.Lists.{listed}
 use Rattle.sheet.specs.Rules.{Alike, Known}
 use Rattle.sheet.specs.Sheets.{table}
 use Rattle.sheet.specs.Tables.{Table, blank, task_of}
-use Rattle.sheet.specs.contracts.sheet.Sheet as sheet
-use Rattle.sheet.specs.contracts.table.Table as places
-use Rattle.sheet.specs.contracts.table.Task as task
-use Rattle.sheet.specs.contracts.table.TaskExact.TheImpl.Laws.{exact-law}
-use Rattle.sheet.specs.contracts.table.TaskPartialEq.TheImpl.{eq-value as task-eq}
+use Rattle.sheet.specs.contracts.sheet.SheetPartialEq.TheImpl.{eq-value as sheet-eq}
 use Rattle.sheet.specs.declared.sheet.Sheet.{Sheet}
+use Rattle.sheet.specs.declared.table.Table.{Table as Places}
 use Rattle.sheet.specs.declared.table.Task.{Task}
-use denote.Struct.Record.{values_one}
-use lib.Pointwise.{pointwise, pointwise_decides}
 
--- ---- what `==` computes: it compares the places
+-- tables that hold the same tasks are the same, for the places behind them are blank; so a sheet holds nothing that its table does
+-- not show
+same-listed : (s t : Places) → listed s ≡ listed t → s ≡ t
+same-listed s t h =
+    let len : s.len ≡ t.len = sym (len-back s) ∙ ap length h ∙ len-back t in
+    same-places s t len (sym (tasks-back s) ∙ ap₂ (λ xs n. xs ++ replicate (16 - n) blank) h len ∙ tasks-back t)
 
-same-sheets : (a b : Sheet) → a.table.len ≡ b.table.len → a.table.tasks ≡ b.table.tasks → a ≡ b
-same-sheets a b len tasks =
-    let same : a.table ≡ b.table = values_one places.struct (places.the_propositions task.the_row.coded) a.table b.table (λ i. (len i, (tasks i, tt))) in
-    values_one sheet.struct (sheet.the_propositions places.the_row.coded) a b (ap (λ p. (p, tt)) same)
-
--- a sheet holds nothing that its table does not show
-pub same-tables : (a b : Sheet) → table a ≡ table b → a ≡ b
-same-tables a b h =
-    let len : a.table.len ≡ b.table.len = sym (len-back a.table) ∙ ap length h ∙ len-back b.table in
-    same-sheets a b len (sym (tasks-back a.table) ∙ ap₂ (λ xs n. xs ++ replicate (16 - n) blank) h len ∙ tasks-back b.table)
-
-module _ (a b : Sheet) (r : Bool) (is : r ≡ ((a.table.len == b.table.len) && pointwise task-eq.it a.table.tasks b.table.tasks)) where
-  parts : Decides r ((a.table.len ≡ b.table.len) × (a.table.tasks ≡ b.table.tasks))
-  parts = Decides-at r _ is (Decides-and (a.table.len == b.table.len) _ (Decides-eqb _ _) (pointwise_decides exact-law _ _))
-
-  pub same-decides : Decides r (a ≡ b)
-  same-decides = Decides-like _ (λ h. same-sheets a b h.0 h.1) (λ e. (ap (λ (s : Sheet). s.table.len) e, ap (λ (s : Sheet). s.table.tasks) e)) parts
-
-  pub tables-decide : Decides r (table a ≡ table b)
-  tables-decide = Decides-like _ (ap table) (same-tables a b) same-decides
+pub same_tables : (a b : Sheet) → table a ≡ table b → a ≡ b
+same_tables a b h = same-sheets a b (same-listed a.table b.table h)
 
 -- ---- alike tables
 
-same-tasks : (x y : Task) → x.min ≡ y.min → x.max ≡ y.max → x.kind ≡ y.kind → x.before.0 ≡ y.before.0 → x ≡ y
+pub same-tasks : (x y : Task) → x.min ≡ y.min → x.max ≡ y.max → x.kind ≡ y.kind → x.before.0 ≡ y.before.0 → x ≡ y
 same-tasks x y a b c d = λ i. record { min = a i; max = b i; kind = c i; before = record { 0 = d i } }
 
 module _ (s t : Table) (p : Known s) (q : Known t) where
@@ -60,3 +45,8 @@ module _ (s t : Table) (p : Known s) (q : Known t) where
 
 pub same-alike : (s t : Table) → s ≡ t → Alike s t
 same-alike s t e = record { count = cc; least = λ k _. cc; most = λ k _. cc; kinds = λ k _. cc; links = λ a b _ _. cc }
+
+-- so `==` finds the alike sheets
+pub sheets_alike : (a b : Sheet) → IsTrue (sheet-eq.it a b) ↔ Alike (table a) (table b)
+sheets_alike a b =
+    Decides-like _ (λ e. same-alike _ _ (ap table e)) (λ h. same_tables a b (alike-same _ _ a.keeps.known b.keeps.known h)) (sheets_exact a b)

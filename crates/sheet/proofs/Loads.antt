@@ -3,14 +3,18 @@ use Rattle.std.proofs.Common.{◌≡◌, refl, Bool, true, false, ℕ, ◌+◌, 
 use Rattle.common.proofs.Sets.{removing-less, sum-less, sum-none, sum-removing, sum-same, sum-small}
 use Rattle.common.specs.Sets.{has, removing}
 use Rattle.sheet.proofs.Rules.{Sound}
+use Rattle.sheet.specs.Rules.{Lasts}
 use Rattle.sheet.specs.Tables.{Table, blank, expected_of, load_of, maximum_of, task_of}
 use Rattle.sheet.specs.declared.table.Task.{Task}
 
 -- ---- one task
 
-pub expected-pos : (t : Table) → Sound t → (k : ℕ) → k < length t → 0 < expected_of (task_of t k)
+pub expected-within : (x : Task) → Lasts x → (x.min ≤ expected_of x) × (expected_of x ≤ x.max)
 unfolding expected_of
-expected-pos t r k lt = let l = r.lasting k blank lt in omega arith
+expected-within x l = (omega arith, omega arith)
+
+pub expected-pos : (t : Table) → Sound t → (k : ℕ) → k < length t → 0 < expected_of (task_of t k)
+expected-pos t r k lt = let l = r.lasting k blank lt in omega (arith, expected-within (task_of t k) l)
 
 module _ (t : Table) (r : Sound t) where
   pub maximum-task : (k : ℕ) → k < length t → maximum_of (task_of t k) ≤ 65535
@@ -18,8 +22,7 @@ module _ (t : Table) (r : Sound t) where
   maximum-task k lt = let l = r.lasting k blank lt in omega arith
 
   pub expected-task : (k : ℕ) → k < length t → expected_of (task_of t k) ≤ 65535
-  unfolding expected_of
-  expected-task k lt = let l = r.lasting k blank lt in omega arith
+  expected-task k lt = let l = r.lasting k blank lt in omega (arith, expected-within (task_of t k) l)
 
   -- so no sum over a sheet wraps
   pub maximum-small : (p : ℕ → Bool) → load_of maximum_of t p ≤ 65535 * length t

@@ -1,8 +1,11 @@
 -- Demands and margins. Assumes nothing.
-use Rattle.std.proofs.Common.{◌≡◌, ◌↔◌, refl, sym, ap, ◌∙◌, Bool, true, false, All, IsTrue, List, ⊎_elim, ℕ, ◌≤◌, arith, cond, pos, ◌-ℤ◌, ◌≤ℤ◌, get_or, Option, Some, None, length, option_map}
+use Rattle.std.proofs.Common.{◌≡◌, ◌↔◌, refl, sym, ap, ◌∙◌, Bool, true, false, IsTrue, List, ⊎_elim, ℕ, ◌≤◌, arith, cond, pos, ◌-ℤ◌, ◌≤ℤ◌, get_or, Option, Some, None, length, option_map}
 use Rattle.std.proofs.lemmas.Int.{ints}
 use Rattle.std.proofs.lemmas.Bool.{cases_lt}
-use Rattle.std.proofs.lemmas.List.{get_or_default, get_or_past}
+use Rattle.std.proofs.lemmas.List.{get_or_past}
+use Rattle.std.proofs.lemmas.List.FromFn.{get_or-range_with_len, length-range_with_len}
+use Rattle.std.proofs.lemmas.List.Sums.{AllPass-from_list_all, list_all-from_AllPass}
+use Rattle.std.specs.List.{AllPass, list_all, range_with_len}
 use Rattle.std.specs.Prelude.{int_le, int_lt}
 use Rattle.sheet.proofs.Loads.{load-same}
 use Rattle.common.proofs.Sets.{has-none}
@@ -20,7 +23,7 @@ pub left_is : (t : Table) (done d s : ℕ) → ((u : ℕ) → has s u ≡ pressi
 left_is t done d s e = load-same maximum_of t (has s) (pressing t done d) e
 
 -- a number that no task has has no margin
-pub no-margin-after : (t : Table) (s k : ℕ) → length t ≤ k → margin_after t s k ≡ None
+no-margin-after : (t : Table) (s k : ℕ) → length t ≤ k → margin_after t s k ≡ None
 no-margin-after t s k ge = rw (get_or_past t k blank ge) (at (has s k))
   where
     at : (b : Bool) → cond b None (option_map (left_after t s) (deadline_of blank.kind)) ≡ None
@@ -64,20 +67,31 @@ abbrev pub is_met : Option Margin → Bool
 is_met None = true
 is_met (Some m) = int_le (pos 0) m.0
 
--- none of the margins that are there is below 0
-pub fits_is : (t : Table) (s : ℕ) (ms : List (Option Margin)) → ((k : ℕ) → get_or ms k None ≡ margin_after t s k) → (met : Bool) → IsTrue met ↔ All (λ o. IsTrue (is_met o)) ms → IsTrue met ↔ FitsAfter t s
-fits_is t s ms lists met all = (λ e. to (all.0 e), λ f. all.1 (from f))
-  where
-    is : (o : Option Margin) → ((m : Margin) → o ≡ Some m → pos 0 ≤ℤ m.0) → is_met o ≡ true
-    is None each = refl
-    is (Some m) each = let z = each m refl in grind (arith, ints)
+-- the margins of the tasks, by their numbers
+module _ (t : Table) (s : ℕ) where
+  abbrev pub task_met : ℕ → Bool
+  task_met k = is_met (margin_after t s k)
 
-    to : All (λ o. IsTrue (is_met o)) ms → FitsAfter t s
-    to all k m h =
-        ⊎_elim
-        (λ lt. let z = rw (lists k ∙ h) at (all k None lt) in grind (arith, ints))
-        (λ ge. cc (get_or_past ms k None ge, lists k))
-        (cases_lt k (length ms))
+  abbrev pub numbers : List ℕ
+  numbers = range_with_len 0 (length t)
 
-    from : FitsAfter t s → All (λ o. IsTrue (is_met o)) ms
-    from f k d lt = is _ (λ m h. f k m (sym (lists k) ∙ get_or_default ms k None d lt ∙ h))
+  is : (o : Option Margin) → ((m : Margin) → o ≡ Some m → pos 0 ≤ℤ m.0) → is_met o ≡ true
+  is None each = refl
+  is (Some m) each = let z = each m refl in grind (arith, ints)
+
+  to : AllPass task_met numbers → FitsAfter t s
+  to all k m h =
+      ⊎_elim
+      (λ lt.
+      let at : get_or numbers k 0 ≡ k = omega (arith, get_or-range_with_len 0 (length t) k 0 lt) in
+      let z = rw (ap (margin_after t s) at ∙ h) at (all k 0 (omega (arith, length-range_with_len 0 (length t)))) in
+      grind (arith, ints))
+      (λ ge. cc (no-margin-after t s k ge))
+      (cases_lt k (length t))
+
+  from : FitsAfter t s → AllPass task_met numbers
+  from f k d lt = is _ (f (get_or numbers k d))
+
+  -- none of the margins of the tasks is below 0
+  pub fits_is : (r : Bool) → r ≡ list_all task_met numbers → IsTrue r ↔ FitsAfter t s
+  fits_is r all = (λ e. to (AllPass-from_list_all task_met numbers (sym all ∙ e)), λ f. all ∙ list_all-from_AllPass task_met numbers (from f))

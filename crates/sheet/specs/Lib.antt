@@ -9,3 +9,4 @@ pub mod Lists
 pub mod Sheets
 pub mod Texts
 pub mod Effects
+pub mod EqualLaws

@@ -15,6 +15,7 @@ pub fn rules_stand(sheet: &Sheet)
 {}
 
 // Sheets with equal tables are equal: a sheet holds nothing that its table does not show.
+#[tactic(auto, using(crate::proofs::Equal::same_tables))]
 pub fn equal_tables(a: &Sheet, b: &Sheet)
     ensures { table a.now ≡ table b.now → a.now ≡ b.now }
 {}

@@ -4,6 +4,7 @@ ghost use Rattle.sheet.specs.Lists.{listed};
 ghost use Rattle.sheet.specs.Rules.{Keeps};
 
 use crate::table::Table;
+use common::Exact;
 
 mod calls;
 mod equal;
@@ -35,4 +36,10 @@ impl Sheet {
             table: Table::empty(),
         }
     }
+}
+
+impl Exact for Sheet {
+    ghost use Rattle.sheet.specs.EqualLaws.{sheets_exact};
+
+    ghost exact = { sheets_exact };
 }

@@ -54,7 +54,7 @@ impl Kind {
     }
 
     // Whether this is hard, with a deadline of at most this one.
-    pub(crate) fn due_by(self, deadline: u32) -> bool
+    pub fn due_by(self, deadline: u32) -> bool
         ensures { result ≡ due_by deadline self }
     {
         self.deadline().is_some_and(|last| last <= deadline)
@@ -173,4 +173,10 @@ impl Exact for Kind {
 
 impl Exact for Task {
     ghost exact = { Prim.search (comparing, rules) };
+}
+
+impl Exact for Table {
+    ghost use Rattle.sheet.specs.EqualLaws.{tables_exact};
+
+    ghost exact = { tables_exact };
 }

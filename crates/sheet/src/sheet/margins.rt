@@ -52,13 +52,13 @@ impl Sheet {
         Ok(self.margin_after(TaskSet::EMPTY, t))
     }
 
-    // What is left of each task's deadline where the tasks of `done` run first.
-    fn margins_after(&self, done: TaskSet) -> [Option<Margin>; 16]
+    // The margin of each task.
+    fn margins(&self) -> [Option<Margin>; 16]
         ensures whole { length result ≡ 16 }
-        ensures each { (k : ℕ) → slice_index_or result k None ≡ margin_after (table self.now) done.0 k }
+        ensures each { (k : ℕ) → slice_index_or result k None ≡ margin_of (table self.now) k }
     {
         // An index below 16: the cast is proved to keep it.
-        array::from_fn(|t| self.margin_after(done, t as u8))
+        array::from_fn(|t| self.margin_after(TaskSet::EMPTY, t as u8))
     }
 
     // Whether no margin is below 0.
@@ -73,16 +73,14 @@ impl Sheet {
         ensures fits { IsTrue result ↔ FitsAfter (table self.now) done.0 }
         ensures none_run { FitsAfter (table self.now) 0 ↔ Fits (table self.now) }
     {
-        self.margins_after(done)
-            .iter()
-            .all(|margin| margin.is_none_or(|left| left.0 >= 0))
+        (0..self.count()).all(|t| self.margin_after(done, t).is_none_or(|left| left.0 >= 0))
     }
 
     // The hard task of least margin, the lowest-numbered of equals.
     pub fn tightest(&self) -> Option<u8>
         ensures { MatchOption result ((k : ℕ) → margin_of (table self.now) k ≡ None) (Tightest (table self.now)) }
     {
-        let t = first_present(&self.margins_after(TaskSet::EMPTY))?;
+        let t = first_present(&self.margins())?;
         // An index below 16: the cast is proved to keep it.
         Some(t as u8)
     }
