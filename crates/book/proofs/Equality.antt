@@ -2,19 +2,19 @@
 use Rattle.std.proofs.Common.{◌≡◌, refl, sym, ap, ap₂, subst, replicate, ◌++◌, ◌-◌, ◌∙◌, List, [], ℕ, ◌<◌, arith, length, get_or, length-take-le, None}
 use Rattle.std.proofs.lemmas.Bool.Decides.{Decides-like}
 use Rattle.std.proofs.lemmas.List.{get_or_default, get_or-map, same_lists, take-append-drop}
-use Rattle.book.specs.Standard.{Alike, Contents, contents}
+use Rattle.std.specs.Prelude.{◌↔◌, IsTrue}
 use Rattle.book.specs.EqualLaws.{same-books, same-ramp-books, same-step-books, same-steps, standard_books_exact}
 use Rattle.book.specs.Lists.{steps_in, used}
-use Rattle.book.specs.contracts.standard.StandardBookPartialEq.TheImpl.{eq-value as standard-book-eq}
-use Rattle.std.specs.Prelude.{◌↔◌, IsTrue}
 use Rattle.book.specs.Ramps.{ramp_of}
+use Rattle.book.specs.Standard.{Alike, Contents, contents}
 use Rattle.book.specs.Steps.{blank, steps_of}
 use Rattle.book.specs.Weights.{weight_of}
+use Rattle.book.specs.contracts.standard.StandardBookPartialEq.TheImpl.{eq-value as standard-book-eq}
+use Rattle.book.specs.contracts.weights.Weights as weights
 use Rattle.book.specs.declared.standard.StandardBook.{StandardBook}
 use Rattle.book.specs.declared.step.Step.{Step}
 use Rattle.book.specs.declared.step.StepBook.{StepBook}
 use Rattle.book.specs.declared.step.Steps.{Steps}
-use Rattle.book.specs.contracts.weights.Weights as weights
 use Rattle.book.specs.declared.weights.Weights.{Weights}
 use denote.Struct.Record.{values_one}
 

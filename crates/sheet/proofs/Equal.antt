@@ -1,8 +1,8 @@
 -- Sheets with the same table are the same, and so are alike sheets, under the rules of a sheet. Assumes nothing.
 use Rattle.std.proofs.Common.{◌≡◌, sym, ap, ap₂, ◌∙◌, ◌++◌, ℕ, ◌-◌, ◌<◌, arith, length, replicate}
 use Rattle.std.proofs.lemmas.Bool.Decides.{Decides-like, nat_tests}
-use Rattle.std.specs.Prelude.{◌↔◌, IsTrue}
 use Rattle.std.proofs.lemmas.List.{get_or_default, same_lists}
+use Rattle.std.specs.Prelude.{◌↔◌, IsTrue}
 use Rattle.common.proofs.Sets.{same-set}
 use Rattle.sheet.proofs.Tables.{len-back, tasks-back}
 use Rattle.sheet.specs.EqualLaws.{same-places, same-sheets, sheets_exact}

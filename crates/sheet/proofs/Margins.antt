@@ -67,31 +67,25 @@ abbrev pub is_met : Option Margin → Bool
 is_met None = true
 is_met (Some m) = int_le (pos 0) m.0
 
--- the margins of the tasks, by their numbers
-module _ (t : Table) (s : ℕ) where
-  abbrev pub task_met : ℕ → Bool
-  task_met k = is_met (margin_after t s k)
+abbrev pub task_met : Table → (s k : ℕ) → Bool
+task_met t s k = is_met (margin_after t s k)
 
-  abbrev pub numbers : List ℕ
-  numbers = range_with_len 0 (length t)
+-- none of the margins of the tasks is below 0
+pub fits_is : (t : Table) (s : ℕ) (r : Bool) → r ≡ list_all (task_met t s) (range_with_len 0 (length t)) → IsTrue r ↔ FitsAfter t s
+fits_is t s r all =
+    let numbers = range_with_len 0 (length t) in
+    (λ e. to (AllPass-from_list_all (task_met t s) numbers (sym all ∙ e)), λ f. all ∙ list_all-from_AllPass (task_met t s) numbers (λ k d lt. is _ (f (get_or numbers k d))))
+  where
+    is : (o : Option Margin) → ((m : Margin) → o ≡ Some m → pos 0 ≤ℤ m.0) → is_met o ≡ true
+    is None each = refl
+    is (Some m) each = let z = each m refl in grind (arith, ints)
 
-  is : (o : Option Margin) → ((m : Margin) → o ≡ Some m → pos 0 ≤ℤ m.0) → is_met o ≡ true
-  is None each = refl
-  is (Some m) each = let z = each m refl in grind (arith, ints)
-
-  to : AllPass task_met numbers → FitsAfter t s
-  to all k m h =
-      ⊎_elim
-      (λ lt.
-      let at : get_or numbers k 0 ≡ k = omega (arith, get_or-range_with_len 0 (length t) k 0 lt) in
-      let z = rw (ap (margin_after t s) at ∙ h) at (all k 0 (omega (arith, length-range_with_len 0 (length t)))) in
-      grind (arith, ints))
-      (λ ge. cc (no-margin-after t s k ge))
-      (cases_lt k (length t))
-
-  from : FitsAfter t s → AllPass task_met numbers
-  from f k d lt = is _ (f (get_or numbers k d))
-
-  -- none of the margins of the tasks is below 0
-  pub fits_is : (r : Bool) → r ≡ list_all task_met numbers → IsTrue r ↔ FitsAfter t s
-  fits_is r all = (λ e. to (AllPass-from_list_all task_met numbers (sym all ∙ e)), λ f. all ∙ list_all-from_AllPass task_met numbers (from f))
+    to : AllPass (task_met t s) (range_with_len 0 (length t)) → FitsAfter t s
+    to all k m h =
+        ⊎_elim
+        (λ lt.
+        let at : get_or (range_with_len 0 (length t)) k 0 ≡ k = omega (arith, get_or-range_with_len 0 (length t) k 0 lt) in
+        let z = rw (ap (margin_after t s) at ∙ h) at (all k 0 (omega (arith, length-range_with_len 0 (length t)))) in
+        grind (arith, ints))
+        (λ ge. cc (no-margin-after t s k ge))
+        (cases_lt k (length t))
